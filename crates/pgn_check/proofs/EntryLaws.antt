@@ -144,12 +144,15 @@ read_valid scenario out journal traces h = λ k d lt j note within. ((h.readable
 
 -- The answers.
 
+-- a text that is read, and whose transactions are all good, is read so far
 pub read_so_far : (scenario : Scenario) (out : List ℕ) (journal : List Tx) (traces : List Trace) → IsReading scenario out journal traces → first_bad_from scenario.sections 2 journal ≡ None → IsReadSoFar scenario out journal traces
 read_so_far scenario out journal traces h e = record { read = h; entries = all_good scenario.sections 2 journal (read_valid scenario out journal traces h) e }
 
+-- the line that breaks the form is the first to blame
 pub blamed_in_form : (scenario : Scenario) (out : List ℕ) (n : ℕ) → IsSound scenario → BreaksForm scenario out n → IsBlamedFirst scenario out n
 blamed_in_form scenario out n sound h settings = least-in_form scenario settings out n sound h
 
+-- the first line of the first bad transaction is the first to blame
 pub blamed_in_journal : (scenario : Scenario) (out : List ℕ) (n : ℕ) (journal : List Tx) (traces : List Trace) → IsSound scenario → IsReading scenario out journal traces → first_bad_from scenario.sections 2 journal ≡ Some n
     → IsBlamedFirst scenario out n
 blamed_in_journal scenario out n journal traces sound h e settings =
@@ -159,14 +162,17 @@ blamed_in_journal scenario out n journal traces sound h e settings =
 
 -- Each line has a byte of its own.
 
+-- joined lines have at least a byte each
 pub joined_long : (lines : List (List ℕ)) → length lines ≤ length (joined lines)
 joined_long [] = omega arith
 joined_long (line ∷ lines) = omega (arith, joined_long lines, length-append (line ++ 10 ∷ []) (joined lines), length-append line (10 ∷ []))
 
+-- the lines of transactions are counted by their notifications
 pub lines_long : (x : ℕ) (txs : List Tx) → length (entries_lines x txs) ≡ lines_in txs
 lines_long x [] = refl
 lines_long x (tx ∷ txs) = omega (arith, entry_long x tx, lines_long (x + 1) txs, length-append (entry_lines x tx) (entries_lines (x + 1) txs))
 
+-- a text of fewer than 2^63 bytes has a journal whose lines can be numbered
 pub lines_fit : (scenario : Scenario) (out : List ℕ) (journal : List Tx) (traces : List Trace) → IsReading scenario out journal traces → length out < 2 ^ 63 → 2 + lines_in journal < 2 ^ 64
 lines_fit scenario out journal traces h few =
     let all : length (text_lines scenario journal traces) ≤ length out = omega (arith, joined_long (text_lines scenario journal traces), ap length h.shown) in

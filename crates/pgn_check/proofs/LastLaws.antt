@@ -37,6 +37,7 @@ three false b d h = absurd (false≢true h)
 all_three : (a b d : Bool) → a ≡ true → b ≡ true → d ≡ true → (a && (b && d)) ≡ true
 all_three a b d p q r = ap (λ (t : Bool). t && (b && d)) p ∙ ap (λ (t : Bool). t && d) q ∙ r
 
+-- a trace that ends within a block, before the script's end, leaves no read out
 pub last_off : (terms : Terms) (journal : List Tx) (at : Standing) (a b c : Bool) → (a ≡ true) ↔ (at.block.state ≡ Idle) → (b ≡ true) ↔ (length terms.section.lines ≤ at.next) → c ≡ (a || b) → c ≡ false → AsksLast terms journal at true
 last_off terms journal at a b c f g e off s h rests =
     let n = neither_is a b (sym e ∙ off) in
@@ -51,11 +52,13 @@ rests terms journal at s a b c f g e on h = elim (either_is a b (sym e ∙ on)) 
   | inr over ↦ inr (h.rest ∙ over_is terms.section.lines at.next (g.0 over))
 ]
 
+-- each other one leaves none out exactly where its session is up to date
 pub last_by : (terms : Terms) (journal : List Tx) (at : Standing) (a b c d : Bool) → (a ≡ true) ↔ (at.block.state ≡ Idle) → (b ≡ true) ↔ (length terms.section.lines ≤ at.next) → c ≡ (a || b) → c ≡ true
     → Asks terms.section journal at d (λ s. IsUpToDate terms journal s) → AsksLast terms journal at d
 last_by terms journal at a b c true f g e on asks s h = λ _. (asks s h).0 refl
 last_by terms journal at a b c false f g e on asks s h = (rests terms journal at s a b c f g e on h, λ up. false≢true ((asks s h).1 up))
 
+-- a trace is at its end exactly where nothing is owed, no line is left and the mark is the last one
 pub ended_by : (section : Section) (journal : List Tx) (at : Standing) (last : Option ℕ) (a b d c : Bool) → (a ≡ true) ↔ (at.owed ≡ show.Nothing) → (b ≡ true) ↔ (length section.lines ≤ at.next) → (d ≡ true) ↔ (at.mark ≡ last) → c ≡ (a && (b && d))
     → Asks section journal at c (λ s. IsEnd s last)
 ended_by section journal at last a b d c f g k e s h = (
@@ -69,6 +72,7 @@ ended_by section journal at last a b d c f g k e s h = (
   λ end. e ∙ all_three a b d (f.1 (nothing_is at.owed (sym h.owed ∙ end.answered))) (g.1 (is_over section.lines at.next (sym h.rest ∙ end.done))) (k.1 (sym h.mark ∙ end.mark)),
 )
 
+-- nothing is missing exactly where it is at its end, all own numbers were shown and the last mark is the journal's end
 pub whole_by : (basis : Basis) (at : Standing) (own : ℕ) (last : Option ℕ) (a b d c : Bool) → Asks basis.section.now (journal_of basis) at a (λ s. IsEnd s last) → (b ≡ true) ↔ (length (xids_of basis.section.now.no (journal_of basis)) ≤ own)
     → (d ≡ true) ↔ IfSome last (λ mark. mark ≡ next_xid (journal_of basis)) → c ≡ (a && (b && d)) → Asks basis.section.now (journal_of basis) at c (IsMissingNone basis own last)
 whole_by basis at own last a b d c f g k e s h = (

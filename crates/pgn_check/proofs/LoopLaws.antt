@@ -29,6 +29,7 @@ many_same a b [] = refl
 many_same a b (i ∷ items) =
     omega (arith, length-append (item_lines a i) (flat_map (item_lines a) items), length-append (item_lines b i) (flat_map (item_lines b) items), same_many a b i, many_same a b items)
 
+-- a trace has a head, the lines of its items and an end
 pub trace_many : (section : Section) (trace : Trace) (lines : List ScriptLine) → length (trace_lines section trace) ≡ 2 + length (flat_map (item_lines lines) trace.items)
 trace_many section trace lines =
     omega (arith, length-append (flat_map (item_lines section.lines) trace.items) (end_line trace.last ∷ []), many_same section.lines lines trace.items)
@@ -58,13 +59,16 @@ module _ (section : Section) (trace : Trace) (k : ℕ) (i : Item) where
       let there : length (item_lines section.lines (get_or trace.items k i)) ≡ length (item_lines section.lines i) = ap (λ (x : Item). length (item_lines section.lines x)) (sym is) in
       omega (arith, e, few, there, trace_many section trace section.lines, same_many section.lines [] i, length-flat_map-take (item_lines section.lines) trace.items k i lt)
 
+  -- the number of the last line after one item more
   pub line_next : (head line next : ℕ) → k < length trace.items → i ≡ get_or trace.items k i → line ≡ last_line head section (take k trace.items) → next ≡ line + length (item_lines section.lines i)
       → next ≡ last_line head section (take (k + 1) trace.items)
   line_next head line next lt is e more = omega (arith, e, more, lines_on section.lines trace.items k i lt is)
 
+  -- the own numbers that were shown after one item more
   pub own_next : (own next : ℕ) → k < length trace.items → i ≡ get_or trace.items k i → next ≡ length (finished_xids (take k trace.items ++ i ∷ [])) → next ≡ length (finished_xids (take (k + 1) trace.items))
   own_next own next lt is e = e ∙ ap (λ (xs : List Item). length (finished_xids xs)) (sym (items_on trace.items k i lt is))
 
+-- what is known before and behind the item at a place, where the walk has come to it
 pub around_at : (basis : Basis) (sections : List Section) (traces : List Trace) (head : ℕ) (trace : Trace) (k : ℕ) (i : Item) (walker : Walker) → k < length trace.items → i ≡ get_or trace.items k i
     → walker.line ≡ last_line head basis.section.now (take k trace.items) → walker.own ≡ length (finished_xids (take k trace.items)) → Tells basis sections traces → IsReadTrace basis.section.now trace
     → HasCome basis sections traces (take k trace.items) walker.at → IsAround basis sections traces head trace (take k trace.items) i (drop (k + 1) trace.items) walker
@@ -77,10 +81,12 @@ around_at basis sections traces head trace k i walker lt is line own tells read 
   own = own;
 }
 
+-- the walk past the items before a place and the one there is past those before the next
 pub come_next : (basis : Basis) (sections : List Section) (traces : List Trace) (items : List Item) (k : ℕ) (i : Item) (at : Standing) → k < length items → i ≡ get_or items k i → HasCome basis sections traces (take k items ++ i ∷ []) at
     → HasCome basis sections traces (take (k + 1) items) at
 come_next basis sections traces items k i at lt is come = subst (λ (xs : List Item). HasCome basis sections traces xs at) (sym (items_on items k i lt is)) come
 
+-- what is known at the end, where the walk has come past all items
 pub end_at : (basis : Basis) (sections : List Section) (traces : List Trace) (head : ℕ) (trace : Trace) (k : ℕ) (walker : Walker) → length trace.items ≤ k
     → walker.line ≡ last_line head basis.section.now (take k trace.items) → HasCome basis sections traces (take k trace.items) walker.at → IsAtEnd basis sections traces head trace walker
 end_at basis sections traces head trace k walker le line come =
@@ -90,6 +96,7 @@ end_at basis sections traces head trace k walker le line come =
       line = line ∙ ap (λ (xs : List Item). last_line head basis.section.now xs) all;
     }
 
+-- the own numbers that were shown behind the last item are all
 pub own_all : (items : List Item) (k own : ℕ) → length items ≤ k → own ≡ length (finished_xids (take k items)) → own ≡ length (finished_xids items)
 own_all items k own le e = e ∙ ap (λ (xs : List Item). length (finished_xids xs)) (take_all k items le)
 

@@ -70,9 +70,11 @@ none_found seen (note ∷ notes) h k =
     by b true e none = absurd (none e)
     by b false e none = e
 
+-- where the test finds none twice, no two notifications are the same
 pub are_apart : (notes : List Note) → repeats_after [] notes ≡ false → AllPairs Differ notes
 are_apart notes h = (apart_from [] notes h).1
 
+-- where no two are the same, the test finds none twice
 pub apart_has_none : (notes : List Note) → AllPairs Differ notes → repeats_after [] notes ≡ false
 apart_has_none notes h = none_found [] notes (λ k d lt. refl) h
 

@@ -19,6 +19,7 @@ use Rattle.pgn_check.specs.Sections.{IsLeastIn}
 
 -- There is one trace for each section.
 
+-- each section has its trace
 pub each_long : (sections : List Section) (traces : List Trace) → EachSection IsReadTrace sections traces → length sections ≡ length traces
 each_long [] [] h = refl
 each_long [] (trace ∷ traces) h = absurd h
@@ -80,15 +81,18 @@ pub record IsAt (sections : List Section) (traces : List Trace) (k : ℕ) (s : S
 pub is_at : (sections : List Section) (traces : List Trace) (k : ℕ) (s : Section) (t : Trace) → s ≡ get_or sections k s → t ≡ get_or traces k t → k < length traces → EachSection IsReadTrace sections traces → IsAt sections traces k s t
 is_at sections traces k s t one two within read = record { section = one; trace = two; within = within; long = each_long sections traces read }
 
+-- the trace at a place is one that was read of its section
 pub read_at : (sections : List Section) (traces : List Trace) (k : ℕ) (s : Section) (t : Trace) → IsAt sections traces k s t → EachSection IsReadTrace sections traces → IsReadTrace s t
 read_at sections traces k s t at read =
     subst (λ (x : Section). IsReadTrace x t) (sym at.section) (subst (λ (y : Trace). IsReadTrace (get_or sections k s) y) (sym at.trace) (each_at sections traces k s t read at.within))
 
+-- the lines of the section at a place can be numbered, where all can
 pub fits_at : (sections : List Section) (traces : List Trace) (k head line : ℕ) (s : Section) (t : Trace) → IsAt sections traces k s t → line ≡ head + length (traces_lines (take k sections) (take k traces))
     → head + length (traces_lines sections traces) < 2 ^ 64 → line + length (trace_lines s t) < 2 ^ 64
 fits_at sections traces k head line s t at e few =
     omega (arith, e, few, lines_cut sections traces k s t at.long at.within, ap (λ (x : Section). length (trace_lines x (get_or traces k t))) at.section, ap (λ (x : Trace). length (trace_lines s x)) at.trace)
 
+-- the number of the last line after one section more
 pub line_on : (sections : List Section) (traces : List Trace) (k head line : ℕ) (s : Section) (t : Trace) → IsAt sections traces k s t → line ≡ head + length (traces_lines (take k sections) (take k traces))
     → line + length (trace_lines s t) ≡ head + length (traces_lines (take (k + 1) sections) (take (k + 1) traces))
 line_on sections traces k head line s t at e =
@@ -98,6 +102,7 @@ line_on sections traces k head line s t at e =
     ∙ lines_push (take k sections) (take k traces) s t (omega (arith, length-take k sections, length-take k traces, at.long)) in
     omega (arith, e, more)
 
+-- what holds of each trace before a place and of the one there holds of each before the next
 pub walked_on : (settings : Settings) (P : Terms → Trace → Type 0) (sections : List Section) (traces : List Trace) (k : ℕ) (s : Section) (t : Trace) → IsAt sections traces k s t → EachTrace settings P (take k sections) (take k traces)
     → P (record { section = s; settings = settings }) t → EachTrace settings P (take (k + 1) sections) (take (k + 1) traces)
 walked_on settings P sections traces k s t at h p =
@@ -116,6 +121,7 @@ module _ (settings : Settings) (journal : List Tx) (sections : List Section) (tr
       nothing-blamed (record { section = section; settings = settings }) journal sections traces head trace h.0.state m h.0.comes h.0.spotless h.0.fresh h.0.nothing_missing here
   none_before head (section ∷ front) (trace ∷ done) m h (inr later) = none_before (head + length (trace_lines section trace)) front done m h.1 later
 
+  -- the least line to blame in a section is the least of all, where the sections before it have none
   pub least_at : (k head line n : ℕ) (s : Section) (t : Trace) → EachSection IsReadTrace sections traces → IsAt sections traces k s t → line ≡ head + length (traces_lines (take k sections) (take k traces))
       → EachTrace settings (λ terms trace. IsWalked terms journal sections traces trace) (take k sections) (take k traces)
       → IsLeastOf (record { section = s; settings = settings }) journal sections traces line t n → IsLeastIn settings journal sections traces head n

@@ -37,6 +37,7 @@ last_true true true d h = h
 last_true true false d h = absurd (false≢true h)
 last_true false b d h = absurd (false≢true h)
 
+-- an item is judged by three tests: it is the session's next number, it is borne out, and the walk moves
 pub judged_by : (terms : Terms) (journal : List Tx) (sections : List Section) (traces : List Trace) (before : List Item) (old new : Standing) (i : Item) (a b d : Bool) → (a ≡ true) ↔ IsNextOwn terms.section journal before i
     → ((s : State) → Holds terms.section journal old s → (b ≡ true) ↔ IsBorneOut terms.settings sections journal traces s i) → Moves terms journal old i d new → IsJudged terms journal sections traces before old i (a && (b && d)) new
 judged_by terms journal sections traces before old new i a b d next borne moves = record {
@@ -46,6 +47,7 @@ judged_by terms journal sections traces before old new i a b d next borne moves 
 
 -- A step.
 
+-- the walk begins before the first item
 pub come_first : (basis : Basis) (sections : List Section) (traces : List Trace) (at : Standing) → Holds basis.section.now (journal_of basis) at (start basis.section.now) → HasCome basis sections traces [] at
 come_first basis sections traces at h = record {
   comes = comes-first (terms_of basis) (journal_of basis);
@@ -62,6 +64,7 @@ holds_ready : (basis : Basis) (sections : List Section) (traces : List Trace) (b
     → Holds basis.section.now (journal_of basis) ready_at (ready (state_at basis before))
 holds_ready basis sections traces before at ready_at come leads = leads basis.section.now (journal_of basis) (state_at basis before) come.holds
 
+-- a read that was left out before an item: the last line before it is the least to blame
 pub step_left : (basis : Basis) (sections : List Section) (traces : List Trace) (head : ℕ) (trace : Trace) (before : List Item) (i : Item) (after : List Item) (old : Walker) (ready_at : Standing) (b : Bool)
     → IsAround basis sections traces head trace before i after old → Leads old.at ready_at ready → Asks (terms_of basis).section (journal_of basis) ready_at b (λ s. IsFreshAt (terms_of basis) (journal_of basis) s i) → b ≡ false
     → IsLeastOf (terms_of basis) (journal_of basis) sections traces head trace old.line
@@ -82,6 +85,7 @@ blames_item basis sections traces head trace before i after split comes (inl h) 
 blames_item basis sections traces head trace before i after split comes (inr (inl h)) = NotNext before after i (state_at basis before) split comes h
 blames_item basis sections traces head trace before i after split comes (inr (inr h)) = Unfounded before after i (state_at basis before) split comes h
 
+-- an item that is judged bad: its first line is the least to blame
 pub step_bad : (basis : Basis) (sections : List Section) (traces : List Trace) (head : ℕ) (trace : Trace) (before : List Item) (i : Item) (after : List Item) (old : Walker) (ready_at new : Standing) (b d : Bool)
     → IsAround basis sections traces head trace before i after old → Leads old.at ready_at ready → Asks (terms_of basis).section (journal_of basis) ready_at b (λ s. IsFreshAt (terms_of basis) (journal_of basis) s i) → b ≡ true
     → IsJudged (terms_of basis) (journal_of basis) sections traces before ready_at i d new → d ≡ false → IsLeastOf (terms_of basis) (journal_of basis) sections traces head trace (old.line + 1)
@@ -96,6 +100,7 @@ step_bad basis sections traces head trace before i after old ready_at new b d ar
       least = λ m blames. blamed-from_item (terms_of basis) (journal_of basis) sections traces head trace before after i s m around.read around.split around.come.comes around.come.spotless ((asks (ready s) holds).0 on) blames;
     })
 
+-- an item that is judged good: the walk has come past it
 pub step_on : (basis : Basis) (sections : List Section) (traces : List Trace) (head : ℕ) (trace : Trace) (before : List Item) (i : Item) (after : List Item) (old : Walker) (ready_at new : Standing) (b d : Bool)
     → IsAround basis sections traces head trace before i after old → Leads old.at ready_at ready → Asks (terms_of basis).section (journal_of basis) ready_at b (λ s. IsFreshAt (terms_of basis) (journal_of basis) s i) → b ≡ true
     → IsJudged (terms_of basis) (journal_of basis) sections traces before ready_at i d new → d ≡ true → HasCome basis sections traces (before ++ i ∷ []) new
@@ -117,6 +122,7 @@ step_on basis sections traces head trace before i after old ready_at new b d aro
 
 -- The end.
 
+-- a read that was left out at the end: the last line before it is the least to blame
 pub end_left : (basis : Basis) (sections : List Section) (traces : List Trace) (head : ℕ) (trace : Trace) (old : Walker) (b : Bool) → IsAtEnd basis sections traces head trace old
     → AsksLast (terms_of basis) (journal_of basis) old.at b → b ≡ false → IsLeastOf (terms_of basis) (journal_of basis) sections traces head trace old.line
 end_left basis sections traces head trace old b end asks off =
@@ -141,6 +147,7 @@ whole_is basis trace own s e h = record { ended = h.ended; own = omega (arith, e
 is_whole : (basis : Basis) (trace : Trace) (own : ℕ) (s : State) → own ≡ length (finished_xids trace.items) → IsWhole basis.section.now (journal_of basis) trace s → IsMissingNone basis own trace.last s
 is_whole basis trace own s e h = record { ended = h.ended; all_own = omega (arith, e, h.own); read_all = h.read_all }
 
+-- something missing at the end: the end's line is the least to blame
 pub end_bad : (basis : Basis) (sections : List Section) (traces : List Trace) (head : ℕ) (trace : Trace) (old : Walker) (own : ℕ) (b d : Bool) → IsAtEnd basis sections traces head trace old
     → AsksLast (terms_of basis) (journal_of basis) old.at b → b ≡ true → own ≡ length (finished_xids trace.items) → Asks basis.section.now (journal_of basis) old.at d (IsMissingNone basis own trace.last) → d ≡ false
     → IsLeastOf (terms_of basis) (journal_of basis) sections traces head trace (old.line + 1)
@@ -152,6 +159,7 @@ end_bad basis sections traces head trace old own b d end asks on e missing off =
       least = λ m blames. blamed-from_end (terms_of basis) (journal_of basis) sections traces head trace s m end.come.comes end.come.spotless (fresh_last basis sections traces trace old.at b end.come asks on) blames;
     })
 
+-- nothing missing at the end: the trace is walked
 pub end_good : (basis : Basis) (sections : List Section) (traces : List Trace) (head : ℕ) (trace : Trace) (old : Walker) (own : ℕ) (b d : Bool) → IsAtEnd basis sections traces head trace old
     → AsksLast (terms_of basis) (journal_of basis) old.at b → b ≡ true → own ≡ length (finished_xids trace.items) → Asks basis.section.now (journal_of basis) old.at d (IsMissingNone basis own trace.last) → d ≡ true
     → IsWalked (terms_of basis) (journal_of basis) sections traces trace

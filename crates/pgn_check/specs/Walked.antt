@@ -1,5 +1,5 @@
 -- How far a walk has come.
-use Rattle.std.specs.Prelude.{◌≡◌, ℕ, ◌+◌, ◌≤◌, ◌⊎◌, Bool, true, false, List, [], ◌∷◌, ◌++◌, length, Option, IfSome}
+use Rattle.std.specs.Prelude.{◌≡◌, ℕ, ◌+◌, ◌≤◌, ◌⊎◌, Bool, true, false, List, [], ◌∷◌, ◌++◌, length, Option, IfSome, MatchOption}
 use Rattle.pgn_journal.specs.Journal.{next_xid, xids_of}
 use Rattle.pgn_model.specs.Trace.{IsEnd, IsUpToDate}
 use Rattle.pgn_journal.specs.declared.tx.Tx.{Tx}
@@ -14,6 +14,7 @@ use Rattle.pgn_reading.specs.Completed.{walked, with_owed}
 use Rattle.pgn_reading.specs.Form.{IsReadTrace}
 use Rattle.pgn_reading.specs.Blame.{BlamesTrace, Comes, IsAtRest, IsBorneOut, IsNextOwn, last_line}
 use Rattle.pgn_reading.specs.BlameLaws.{AreSpotless}
+use Rattle.pgn_reading.specs.WholeLaws.{IsWalked}
 use Rattle.pgn_evidence.specs.declared.basis.Basis.{Basis}
 use Rattle.pgn_walk.specs.declared.standing.Standing.{Standing}
 use Rattle.pgn_check.specs.declared.walker.Walker.{Walker}
@@ -60,6 +61,22 @@ pub record IsAtEnd (basis : Basis) (sections : List Section) (traces : List Trac
 pub record IsLeastOf (terms : Terms) (journal : List Tx) (sections : List Section) (traces : List Trace) (head : ℕ) (trace : Trace) (n : ℕ) : Type 0 where
   pub blamed : BlamesTrace terms journal sections traces head trace n
   pub least : (m : ℕ) → BlamesTrace terms journal sections traces head trace m → n ≤ m
+
+-- this is the first line of a section that is to blame, or none is
+abbrev pub IsFirstIn : Basis → List Section → List Trace → ℕ → Trace → Option ℕ → Type 0
+IsFirstIn basis sections traces head trace blamed =
+    MatchOption blamed (IsWalked (terms_of basis) (journal_of basis) sections traces trace) (IsLeastOf (terms_of basis) (journal_of basis) sections traces head trace)
+
+-- so it is where a trace was read, whatever the sections and the traces of whose evidence it is judged by
+abbrev pub IsFirstOf : Basis → ℕ → Trace → Option ℕ → Type 0
+IsFirstOf basis head trace blamed =
+    (sections : List Section) (traces : List Trace) → Tells basis sections traces → IsReadTrace basis.section.now trace → IsFirstIn basis sections traces head trace blamed
+
+-- before an item: where the walk has come to it, this is the first line that is to blame, or the walk comes past it
+abbrev pub IsFirstOrPast : Basis → Walker → Item → Standing → Option ℕ → Type 0
+IsFirstOrPast basis old item at blamed =
+    (sections : List Section) (traces : List Trace) (head : ℕ) (trace : Trace) (before after : List Item) → IsAround basis sections traces head trace before item after old
+    → MatchOption blamed (HasCome basis sections traces (before ++ item ∷ []) at) (IsLeastOf (terms_of basis) (journal_of basis) sections traces head trace)
 
 -- no read was left out at the end, where the session is at rest; or it is at rest, and one was
 abbrev pub IsFreshLast : Bool → Type 0 → Type 0 → Type 0

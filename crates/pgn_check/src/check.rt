@@ -5,13 +5,13 @@ ghost use Rattle.pgn_ledger.specs.Places.{notes_in};
 ghost use Rattle.pgn_model.specs.Text.{traces_lines};
 ghost use Rattle.pgn_reading.specs.Form.{EachSection, IsReadTrace};
 ghost use Rattle.pgn_check.specs.Entries.{lines_in};
-ghost use Rattle.pgn_check.specs.Sections.{IsFirstBlamed, settings_at};
+ghost use Rattle.pgn_check.specs.Sections.{IsFirstBlamed, settings_at, settings_by};
 ghost use Rattle.pgn_check.specs.Verdicts.{Judges};
 
 use crate::entries::lines_in;
 use crate::held::are_held;
 use crate::journal::read_journal;
-use crate::sections::walk_all;
+use crate::sections::{Grounds, walk_all};
 use pgn_base::{Format, Seed};
 use pgn_evidence::Evidence;
 use pgn_form::Reading;
@@ -28,6 +28,14 @@ pub enum Verdict {
     Illegal { line: usize },
 }
 
+/// What the command line sets: the queue's limit in pages, how many looks an await takes, and the format of entries.
+#[derive(Clone, Copy)]
+struct Rules {
+    pages: u32,
+    patience: u64,
+    format: Format,
+}
+
 /// Whether a text is the output of a legal run of the scenario, where the queue has at most so many pages and entries of this format,
 /// and an await takes so many looks. Hashes are made with this seed.
 pub fn check_output(
@@ -41,14 +49,20 @@ pub fn check_output(
 ) -> Result<Verdict, AllocError>
     requires sound { IsSound scenario.now }
     requires few { length out.now ≤ 67108864 }
-    ensures { IfOk result (Judges scenario.now (record { format = format; limit = pages; patience = patience }) out.now) }
+    ensures { IfOk result
+        (Judges scenario.now (record { format = format; limit = pages; patience = patience }) out.now) }
 {
     are_held(scenario.sections.as_slice());
     let reading = match read_journal(alloc, seed, scenario, out)? {
         Ok(reading) => reading,
         Err(line) => return Ok(Verdict::Illegal { line }),
     };
-    let found = walk_reading(alloc, seed, scenario, pages, patience, format, &reading);
+    let rules = Rules {
+        pages,
+        patience,
+        format,
+    };
+    let found = walk_reading(alloc, seed, scenario, &rules, &reading);
     // By a call, before what may return.
     drop(reading);
     match found? {
@@ -62,9 +76,7 @@ fn walk_reading(
     alloc: Global,
     seed: Seed,
     scenario: &Scenario,
-    pages: u32,
-    patience: u64,
-    format: Format,
+    rules: &Rules,
     reading: &Reading,
 ) -> Result<Option<usize>, AllocError>
     requires finished { All IsFinished reading.now.journal }
@@ -72,11 +84,13 @@ fn walk_reading(
     requires few_notes { notes_in reading.now.journal < 2 ^ 40 }
     requires few_lines { lines_in reading.now.journal < 2 ^ 63 }
     requires read { EachSection IsReadTrace scenario.now.sections reading.now.traces }
-    requires fits { 2 + lines_in reading.now.journal + length (traces_lines scenario.now.sections reading.now.traces) < 2 ^ 64 }
-    ensures { IfOk result (IsFirstBlamed (record { format = format; limit = pages; patience = patience }) scenario.now.sections reading.now.journal reading.now.traces) }
+    requires fits { 2 + lines_in reading.now.journal
+        + length (traces_lines scenario.now.sections reading.now.traces) < 2 ^ 64 }
+    ensures { IfOk result (IsFirstBlamed (settings_by rules.now)
+        scenario.now.sections reading.now.journal reading.now.traces) }
 {
-    let ledger = Ledger::new(alloc, seed, format, reading.journal.as_slice())?;
-    let blamed = walk_sections(alloc, scenario, pages, patience, &ledger, reading);
+    let ledger = Ledger::new(alloc, seed, rules.format, reading.journal.as_slice())?;
+    let blamed = walk_sections(alloc, scenario, rules, &ledger, reading);
     drop(ledger);
     blamed
 }
@@ -85,25 +99,30 @@ fn walk_reading(
 fn walk_sections(
     alloc: Global,
     scenario: &Scenario,
-    pages: u32,
-    patience: u64,
+    rules: &Rules,
     ledger: &Ledger,
     reading: &Reading,
 ) -> Result<Option<usize>, AllocError>
     requires journal { ledger.now.journal.now ≡ reading.now.journal }
     requires few_lines { lines_in reading.now.journal < 2 ^ 63 }
     requires read { EachSection IsReadTrace scenario.now.sections reading.now.traces }
-    requires fits { 2 + lines_in reading.now.journal + length (traces_lines scenario.now.sections reading.now.traces) < 2 ^ 64 }
-    ensures { IfOk result (IsFirstBlamed (settings_at ledger.now pages patience) scenario.now.sections reading.now.journal reading.now.traces) }
+    requires fits { 2 + lines_in reading.now.journal
+        + length (traces_lines scenario.now.sections reading.now.traces) < 2 ^ 64 }
+    ensures { IfOk result (IsFirstBlamed (settings_at ledger.now rules.now.pages rules.now.patience)
+        scenario.now.sections reading.now.journal reading.now.traces) }
 {
     let sections = scenario.sections.as_slice();
     let traces = reading.traces.as_slice();
     let evidence = Evidence::new(alloc, ledger.feed.seed(), sections, traces)?;
     let journal = reading.journal.as_slice();
     let head = 2 + lines_in(journal);
-    let blamed = walk_all(
-        alloc, sections, pages, patience, ledger, &evidence, traces, head,
-    );
+    let grounds = Grounds {
+        limit: rules.pages,
+        patience: rules.patience,
+        ledger,
+        evidence: &evidence,
+    };
+    let blamed = walk_all(alloc, &grounds, sections, traces, head);
     drop(evidence);
     blamed
 }

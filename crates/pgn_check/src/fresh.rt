@@ -17,7 +17,8 @@ use pgn_walk::Standing;
 /// No read was left out before an item.
 #[tactic(auto, using(crate::proofs::FreshLaws::fresh_no_line, crate::proofs::FreshLaws::fresh_open, crate::proofs::FreshLaws::fresh_late, crate::proofs::FreshLaws::fresh_by))]
 pub fn is_fresh_at(at: &Standing, basis: &Basis, item: &Item) -> bool
-    ensures { Asks (terms_of basis.now).section (journal_of basis.now) at.now result (λ s. IsFreshAt (terms_of basis.now) (journal_of basis.now) s item.now) }
+    ensures { Asks (terms_of basis.now).section (journal_of basis.now) at.now result
+        (λ s. IsFreshAt (terms_of basis.now) (journal_of basis.now) s item.now) }
 {
     if !begins_line(item) || !at.is_idle() {
         return true;
@@ -72,7 +73,8 @@ fn is_read_up(at: &Standing) -> bool
 /// A listener need not read up to what it was told of.
 #[tactic(auto, using(crate::proofs::FreshLaws::up_none, crate::proofs::FreshLaws::up_far, crate::proofs::FreshLaws::up_by))]
 pub fn is_up_to_date(at: &Standing, basis: &Basis) -> bool
-    ensures { Asks (terms_of basis.now).section (journal_of basis.now) at.now result (λ s. IsUpToDate (terms_of basis.now) (journal_of basis.now) s) }
+    ensures { Asks (terms_of basis.now).section (journal_of basis.now) at.now result
+        (λ s. IsUpToDate (terms_of basis.now) (journal_of basis.now) s) }
 {
     let Some(mark) = at.mark else {
         return true;
@@ -86,7 +88,9 @@ pub fn is_up_to_date(at: &Standing, basis: &Basis) -> bool
 // From the mark on nothing is due.
 #[tactic(auto, using(crate::proofs::FreshLaws::finds_by))]
 fn finds_nothing(at: &Standing) -> bool
-    ensures { (section : Section) (journal : List Tx) (mark : ℕ) → at.now.mark ≡ Some mark → Asks section journal at.now result (λ s. list_any (is_due_to section.db s.set) (entries_between journal mark s.told) ≡ false) }
+    ensures { (section : Section) (journal : List Tx) (mark : ℕ) → at.now.mark ≡ Some mark
+        → Asks section journal at.now result
+        (λ s. list_any (is_due_to section.db s.set) (entries_between journal mark s.told) ≡ false) }
 {
     at.watch.finds_nothing(at.told.get())
 }

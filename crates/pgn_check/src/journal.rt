@@ -18,7 +18,9 @@ pub fn read_journal(
     out: &[u8],
 ) -> Result<Result<Reading, usize>, AllocError>
     requires sound { IsSound scenario.now }
-    ensures { IfOk result (λ read. MatchResult read (λ reading. IsReadSoFar scenario.now out.now reading.journal reading.traces) (IsBlamedFirst scenario.now out.now)) }
+    ensures { IfOk result (λ read. MatchResult read
+        (λ reading. IsReadSoFar scenario.now out.now reading.journal reading.traces)
+        (IsBlamedFirst scenario.now out.now)) }
 {
     let reading = match read_output(alloc, scenario, out)? {
         Ok(reading) => reading,

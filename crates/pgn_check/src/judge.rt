@@ -10,7 +10,7 @@ ghost use Rattle.pgn_check.specs.Walked.{IsJudged};
 use pgn_evidence::{Basis, is_borne_out, is_next_own};
 use pgn_ledger::are_all;
 use pgn_model::Item;
-use pgn_walk::Standing;
+use pgn_walk::{Span, Standing};
 use std::alloc::{AllocError, Global};
 
 /// An item is allowed, the session's next, and borne out; then the session stands behind it.
@@ -22,8 +22,10 @@ pub fn takes(
     own: usize,
     item: &Item,
 ) -> Result<bool, AllocError>
-    ensures { IfOk result (λ taken. (sections : List Section) (traces : List Trace) (before : List Item) → Tells basis.now sections traces → own ≡ length (finished_xids before)
-        → IsJudged (terms_of basis.now) (journal_of basis.now) sections traces before at.old item.now taken at.new) }
+    ensures { IfOk result (λ taken. (sections : List Section) (traces : List Trace) (before : List Item)
+        → Tells basis.now sections traces → own ≡ length (finished_xids before)
+        → IsJudged (terms_of basis.now) (journal_of basis.now) sections traces
+        before at.old item.now taken at.new) }
 {
     let next = is_next_own(basis.ledger, basis.section.no, own, item);
     let borne_out = is_borne_out(basis, &at.owed, item);
@@ -33,7 +35,8 @@ pub fn takes(
 
 // It is allowed.
 fn judge(at: &mut Standing, alloc: Global, basis: &Basis, item: &Item) -> Result<bool, AllocError>
-    ensures { IfOk result (λ allowed. Moves (terms_of basis.now) (journal_of basis.now) at.old item.now allowed at.new) }
+    ensures { IfOk result
+        (λ allowed. Moves (terms_of basis.now) (journal_of basis.now) at.old item.now allowed at.new) }
 {
     match item {
         Item::Line { line } => at.line(alloc, basis.section, *line),
@@ -48,6 +51,12 @@ fn judge(at: &mut Standing, alloc: Global, basis: &Basis, item: &Item) -> Result
         Item::Raise { value } => at.raise(*value),
         Item::Found { value } => at.find(*value),
         Item::TimedOut { looks } => Ok(at.time_out(basis.patience, *looks)),
-        Item::Read { from, to, got } => { at.read(basis.section, basis.ledger, *from, *to, got) }
+        Item::Read { from, to, got } => {
+            let span = Span {
+                from: *from,
+                to: *to,
+            };
+            at.read(basis.section, basis.ledger, &span, got)
+        }
     }
 }

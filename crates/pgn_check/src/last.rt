@@ -29,7 +29,8 @@ pub fn is_fresh_last(at: &Standing, basis: &Basis) -> bool
 /// Nothing is missing, where so many transactions were shown.
 #[tactic(auto, using(crate::proofs::LastLaws::whole_by))]
 pub fn is_whole(at: &Standing, basis: &Basis, own: usize, last: &Option<Xid>) -> bool
-    ensures { Asks basis.now.section.now (journal_of basis.now) at.now result (IsMissingNone basis.now own last.now) }
+    ensures { Asks basis.now.section.now (journal_of basis.now) at.now result
+        (IsMissingNone basis.now own last.now) }
 {
     are_all(
         has_ended(at, basis.section, last),

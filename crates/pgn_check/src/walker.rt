@@ -1,13 +1,9 @@
-ghost use Rattle.std.specs.Prelude.{◌≡◌, ℕ, ◌+◌, ◌^◌, ◌<◌, ◌≤◌, [], ◌∷◌, ◌++◌, List, flat_map, length, Ok, None, IfOk, MatchOption};
+ghost use Rattle.std.specs.Prelude.{◌≡◌, ℕ, ◌+◌, ◌^◌, ◌<◌, ◌≤◌, [], List, flat_map, length, Ok, None, IfOk};
 ghost use Rattle.pgn_language.specs.declared.scenario.Section.{Section};
-ghost use Rattle.pgn_model.specs.declared.item.Item.{Item};
 ghost use Rattle.pgn_model.specs.declared.trace.Trace.{Trace};
 ghost use Rattle.pgn_model.specs.Legal.{finished_xids};
 ghost use Rattle.pgn_model.specs.Text.{item_lines, trace_lines};
-ghost use Rattle.pgn_reading.specs.Form.{IsReadTrace};
-ghost use Rattle.pgn_reading.specs.WholeLaws.{IsWalked};
-ghost use Rattle.pgn_evidence.specs.Basis.{Tells, journal_of, terms_of};
-ghost use Rattle.pgn_check.specs.Walked.{CountsOn, HasCome, IsAround, IsAtEnd, IsLeastOf};
+ghost use Rattle.pgn_check.specs.Walked.{CountsOn, HasCome, IsAtEnd, IsFirstIn, IsFirstOf, IsFirstOrPast};
 
 use crate::fresh::is_fresh_at;
 use crate::judge::takes;
@@ -34,8 +30,7 @@ pub fn walk(
     head: usize,
 ) -> Result<Option<usize>, AllocError>
     requires fits { head + length (trace_lines basis.now.section.now trace.now) < 2 ^ 64 }
-    ensures { IfOk result (λ blamed. (sections : List Section) (traces : List Trace) → Tells basis.now sections traces → IsReadTrace basis.now.section.now trace.now
-        → MatchOption blamed (IsWalked (terms_of basis.now) (journal_of basis.now) sections traces trace.now) (λ n. IsLeastOf (terms_of basis.now) (journal_of basis.now) sections traces head trace.now n)) }
+    ensures { IfOk result (IsFirstOf basis.now head trace.now) }
 {
     let mut walker = Walker::new(alloc, basis, head);
     let blamed = walker.go(alloc, basis, trace);
@@ -49,7 +44,8 @@ impl<'a> Walker<'a> {
     #[tactic(auto, using(crate::proofs::WalkLaws::come_first))]
     fn new(alloc: Global, basis: &Basis<'a>, head: usize) -> Walker<'a>
         ensures counted { (result.own ≡ 0) × (result.line ≡ head) }
-        ensures come { (sections : List Section) (traces : List Trace) → HasCome basis.now sections traces [] result.at }
+        ensures come { (sections : List Section) (traces : List Trace)
+            → HasCome basis.now sections traces [] result.at }
     {
         Walker {
             at: Standing::new(alloc, &basis.ledger.feed, basis.section.db),
@@ -65,11 +61,12 @@ impl<'a> Walker<'a> {
         basis: &Basis,
         trace: &Trace,
     ) -> Result<Option<usize>, AllocError>
-        requires fits { self.old.line + length (trace_lines basis.now.section.now trace.now) < 2 ^ 64 }
+        requires fits { self.old.line
+            + length (trace_lines basis.now.section.now trace.now) < 2 ^ 64 }
         requires own { self.old.own ≡ 0 }
-        requires come { (sections : List Section) (traces : List Trace) → HasCome basis.now sections traces [] self.old.at }
-        ensures { IfOk result (λ blamed. (sections : List Section) (traces : List Trace) → Tells basis.now sections traces → IsReadTrace basis.now.section.now trace.now
-            → MatchOption blamed (IsWalked (terms_of basis.now) (journal_of basis.now) sections traces trace.now) (λ n. IsLeastOf (terms_of basis.now) (journal_of basis.now) sections traces self.old.line trace.now n)) }
+        requires come { (sections : List Section) (traces : List Trace)
+            → HasCome basis.now sections traces [] self.old.at }
+        ensures { IfOk result (IsFirstOf basis.now self.old.line trace.now) }
     {
         for item in trace.items.as_slice() {
             match self.step(alloc, basis, item)? {
@@ -92,8 +89,7 @@ impl<'a> Walker<'a> {
         requires next { self.old.line + 1 < 2 ^ 64 }
         requires own { self.old.own ≤ self.old.line }
         ensures counted { result ≡ Ok None → CountsOn self.old item.now self.new }
-        ensures come { IfOk result (λ blamed. (sections : List Section) (traces : List Trace) (head : ℕ) (trace : Trace) (before after : List Item) → IsAround basis.now sections traces head trace before item.now after self.old
-            → MatchOption blamed (HasCome basis.now sections traces (before ++ item.now ∷ []) self.new.at) (λ n. IsLeastOf (terms_of basis.now) (journal_of basis.now) sections traces head trace n)) }
+        ensures come { IfOk result (IsFirstOrPast basis.now self.old item.now self.new.at) }
     {
         self.at.ready();
         if !is_fresh_at(&self.at, basis, item) {
@@ -112,8 +108,9 @@ impl<'a> Walker<'a> {
     fn end(&self, basis: &Basis, trace: &Trace) -> Option<usize>
         requires next { self.now.line + 1 < 2 ^ 64 }
         requires own { self.now.own ≡ length (finished_xids trace.now.items) }
-        ensures { (sections : List Section) (traces : List Trace) (head : ℕ) → IsAtEnd basis.now sections traces head trace.now self.now
-            → MatchOption result (IsWalked (terms_of basis.now) (journal_of basis.now) sections traces trace.now) (λ n. IsLeastOf (terms_of basis.now) (journal_of basis.now) sections traces head trace.now n) }
+        ensures { (sections : List Section) (traces : List Trace) (head : ℕ)
+            → IsAtEnd basis.now sections traces head trace.now self.now
+            → IsFirstIn basis.now sections traces head trace.now result }
     {
         if !is_fresh_last(&self.at, basis) {
             return Some(self.line);

@@ -26,6 +26,7 @@ pub record IsFigure (digits : List ℕ) : Type 0 where
   pub some : 0 < length digits
   pub few : length digits ≤ 10
 
+-- a number below ten thousand million is written with one to ten digits
 pub figure : (n : ℕ) → n < 10000000000 → IsFigure (decimal n)
 figure n h = record {
   all = digits_decimal (numerals_by_value AreDigits are-digits) n (omega arith);
@@ -38,6 +39,7 @@ pub each-digit : (test : ℕ → Bool) → ((b : ℕ) → 48 ≤ b → b ≤ 57 
 each-digit test h [] d = refl
 each-digit test h (b ∷ digits) d = and_from (test b) (list_all test digits) (h b d.0.0 d.0.1) (each-digit test h digits d.1)
 
+-- a test that no digit passes no text of digits passes
 pub no-digit : (test : ℕ → Bool) → ((b : ℕ) → 48 ≤ b → b ≤ 57 → test b ≡ false) → (digits : List ℕ) → AreDigits digits → list_any test digits ≡ false
 no-digit test h [] d = refl
 no-digit test h (b ∷ digits) d = or_from (test b) (list_any test digits) (h b d.0.0 d.0.1) (no-digit test h digits d.1)
@@ -49,9 +51,11 @@ is_printed b = nat_le 32 b && nat_lt b 127
 printed-digit : (b : ℕ) → 48 ≤ b → b ≤ 57 → is_printed b ≡ true
 printed-digit b low high = grind (arith, nat_tests)
 
+-- digits are printed bytes
 pub digits-printed : (digits : List ℕ) → AreDigits digits → list_all is_printed digits ≡ true
 digits-printed digits d = each-digit is_printed printed-digit digits d
 
+-- a text of two texts of printed bytes is one
 pub printed-append : (xs ys : List ℕ) → list_all is_printed xs ≡ true → list_all is_printed ys ≡ true → list_all is_printed (xs ++ ys) ≡ true
 printed-append xs ys h k = list_all-append is_printed xs ys ∙ and_from (list_all is_printed xs) (list_all is_printed ys) h k
 
@@ -59,6 +63,7 @@ printed-append xs ys h k = list_all-append is_printed xs ys ∙ and_from (list_a
 not-below : (x b : ℕ) → x < 32 → is_printed b ≡ true → (b == x) ≡ false
 not-below x b low h = grind (arith, nat_tests)
 
+-- a printed text has no control byte
 pub printed-lacks : (x : ℕ) → x < 32 → (text : List ℕ) → list_all is_printed text ≡ true → list_any (λ b. b == x) text ≡ false
 printed-lacks x low [] h = refl
 printed-lacks x low (b ∷ text) h =
@@ -75,5 +80,6 @@ all-ascii (b ∷ text) h =
     let parts = and_parts (is_printed b) (list_all is_printed text) h in
     All-cons (λ c. c < 128) b text (below-ascii b parts.0) (all-ascii text parts.1)
 
+-- a printed text is UTF-8
 pub printed-utf8 : (text : List ℕ) → list_all is_printed text ≡ true → is_utf8 text ≡ true
 printed-utf8 text h = is_utf8-from_IsUtf8 text (IsUtf8-from_ascii text (IsAscii-from_all text (all-ascii text h)))

@@ -22,6 +22,7 @@ pub record IsFair (line : List ℕ) : Type 0 where
   pub is : IsLine line said
   pub kept : is_kept said ≡ true
 
+-- so it is with each of these lines
 abbrev pub AreFair : List (List ℕ) → Type 0
 AreFair [] = Unit {0}
 AreFair (line ∷ lines) = IsFair line × AreFair lines
@@ -40,6 +41,7 @@ pub record Gist (lines names flags signals : List (List ℕ)) (notes most : ℕ)
   pub few_notes : count_by notifies (all_say lines) ≤ notes
   pub few : length lines ≤ most
 
+-- what lines say together is what the first say and then the others
 pub say-append : (xs ys : List (List ℕ)) → all_say (xs ++ ys) ≡ all_say xs ++ all_say ys
 say-append [] ys = refl
 say-append (x ∷ xs) ys = ap (λ (said : List Says). says x ∷ said) (say-append xs ys)
@@ -109,6 +111,7 @@ Gist-within xs n f g s i j k l e notes lines h =
 abbrev pub name_at : ℕ → List ℕ
 name_at i = codes "d" ++ decimal i
 
+-- the flag that a session of this number signals
 abbrev pub flag_at : ℕ → List ℕ
 flag_at i = codes "up" ++ decimal i
 
@@ -116,6 +119,7 @@ flag_at i = codes "up" ++ decimal i
 abbrev pub names_to : ℕ → List (List ℕ)
 names_to n = up_to (λ i. name_at i ∷ []) n
 
+-- and their flags
 abbrev pub flags_to : ℕ → List (List ℕ)
 flags_to n = up_to (λ i. flag_at i ∷ []) n
 

@@ -18,10 +18,6 @@ AddsLines-then {a} {b} {c} {xs} {ys} h k = record {
 pub AddsLines-none : (a : List ℕ) → AddsLines a a []
 AddsLines-none a = record { bytes = sym (append-nil a) }
 
--- one line
-pub AddsLines-one : (a b l : List ℕ) → b ≡ a ++ (l ++ 10 ∷ []) → AddsLines a b (l ∷ [])
-AddsLines-one a b l e = record { bytes = e ∙ ap (λ (t : List ℕ). a ++ t) (sym (append-nil (l ++ 10 ∷ []))) }
-
 pub up_to-none : (f : ℕ → List (List ℕ)) → up_to f 0 ≡ []
 unfolding up_to
 up_to-none f = refl
@@ -34,6 +30,7 @@ pub state_after-none : (seed : ℕ) → state_after seed 0 ≡ seed
 unfolding state_after
 state_after-none seed = refl
 
+-- a state drawn once more is the next one
 pub state_after-more : (seed n : ℕ) → state_after seed (n + 1) ≡ next_state (state_after seed n)
 unfolding state_after
 state_after-more seed n = rw add-one refl
@@ -48,16 +45,19 @@ AddsLines-more a b c f n h k = subst (λ (lines : List (List ℕ)). AddsLines a 
 
 -- The draws of a session.
 
+-- where the state after so many draws is drawn from it is the state after one more
 pub state-step : (seed drawn k before now : ℕ) → before ≡ state_after seed (drawn + k) → now ≡ next_state before → now ≡ state_after seed (drawn + (k + 1))
 state-step seed drawn k before now is moved =
     let more : drawn + k + 1 ≡ drawn + (k + 1) = omega arith in
     moved ∙ ap next_state is ∙ sym (state_after-more seed (drawn + k)) ∙ ap (state_after seed) more
 
+-- after no further draw the state is what it was
 pub state-start : (seed drawn state : ℕ) → state ≡ state_after seed drawn → state ≡ state_after seed (drawn + 0)
 state-start seed drawn state is =
     let same : drawn ≡ drawn + 0 = omega arith in
     is ∙ ap (state_after seed) same
 
+-- the seed is the state before the first session's draws
 pub state-first : (seed notes : ℕ) → seed ≡ state_after seed (0 * notes)
 state-first seed notes =
     let same : 0 ≡ 0 * notes = omega arith in

@@ -391,6 +391,7 @@ lines-read text lines cut within sound signalled =
       Faultless within (subst HaveNoFault (sym cut) (sound-none lines sound)) (ap (λ (l : List (List ℕ)). has_section (all_say l)) cut ∙ there) (ap (λ (l : List (List ℕ)). unsignalled (all_say l)) cut ∙ signalled),
     )
 
+-- the text of a drill reads as a scenario with as many sessions
 pub drill-reads : DrillReads
 drill-reads seed sessions notes some few noted =
     let lines : List (List ℕ) = lines_in seed sessions notes sessions in

@@ -226,6 +226,7 @@ note-says j (b ∷ digits) l f =
 four-long : (a b c d : List ℕ) → length (a ++ b ++ c ++ d) ≡ length a + length b + length c + length d
 four-long a b c d = omega (arith, length-append (a ++ b ++ c) d, length-append (a ++ b) c, length-append a b)
 
+-- the line that begins a session opens a section of that name, of database 1
 pub session-line : (i : ℕ) → i ≤ 32 → IsLine (codes "\\session d" ++ decimal i ++ codes " 1") (Opens (codes "d" ++ decimal i) 1)
 session-line i l =
     let f : IsFigure (decimal i) = figure i (omega (arith, l)) in
@@ -237,6 +238,7 @@ session-line i l =
       told = session-says (decimal i) f;
     }
 
+-- the line that awaits a session's flag says so
 pub await-line : (i : ℕ) → i ≤ 32 → IsLine (codes "\\await up" ++ decimal i) (Awaits (codes "up" ++ decimal i))
 await-line i l =
     let f : IsFigure (decimal i) = figure i (omega (arith, l)) in
@@ -247,6 +249,7 @@ await-line i l =
       told = await-says (decimal i) f;
     }
 
+-- the line that signals it says so
 pub signal-line : (i : ℕ) → i ≤ 32 → IsLine (codes "\\signal up" ++ decimal i) (Signals (codes "up" ++ decimal i))
 signal-line i l =
     let f : IsFigure (decimal i) = figure i (omega (arith, l)) in
@@ -257,6 +260,7 @@ signal-line i l =
       told = signal-says (decimal i) f;
     }
 
+-- the line that listens on one of the four channels is that command
 pub listen-line : (j : ℕ) → j < 4 → IsLine (codes "LISTEN c" ++ decimal j) (Runs (command.Listen (channel j)))
 unfolding says table cut digits
 listen-line zero l = record { printed = refl; short = omega arith; told = refl }
@@ -265,6 +269,7 @@ listen-line (suc (suc zero)) l = record { printed = refl; short = omega arith; t
 listen-line (suc (suc (suc zero))) l = record { printed = refl; short = omega arith; told = refl }
 listen-line (suc (suc (suc (suc j)))) l = absurd (omega (arith, l))
 
+-- the line that sends a drawn number on a channel is that command
 pub note-line : (j r : ℕ) → j < 4 → r < 10000000000 → IsLine (notify_line j r) (Runs (sent j (decimal r)))
 note-line j r l small =
     let f : IsFigure (decimal r) = figure r small in
@@ -281,22 +286,27 @@ note-line j r l small =
       told = note-says j (decimal r) l f;
     }
 
+-- the line that begins a transaction is that command
 pub begin-line : IsLine (codes "BEGIN") (Runs command.Begin)
 unfolding says table cut
 begin-line = record { printed = refl; short = omega arith; told = refl }
 
+-- the line that commits it is that command
 pub commit-line : IsLine (codes "COMMIT") (Runs command.Commit)
 unfolding says table cut
 commit-line = record { printed = refl; short = omega arith; told = refl }
 
+-- the line of the savepoint is that command
 pub savepoint-line : IsLine (codes "SAVEPOINT s") (Runs (command.Savepoint (codes "s")))
 unfolding says table cut
 savepoint-line = record { printed = refl; short = omega arith; told = refl }
 
+-- the notification that is rolled back has no payload
 pub gone-line : IsLine (codes "NOTIFY gone") (Runs (command.Notify (record { channel = codes "gone"; payload = [] })))
 unfolding says table cut
 gone-line = record { printed = refl; short = omega arith; told = refl }
 
+-- the line that rolls back to the savepoint is that command
 pub rollback-line : IsLine (codes "ROLLBACK TO s") (Runs (command.RollbackTo (codes "s")))
 unfolding says table cut
 rollback-line = record { printed = refl; short = omega arith; told = refl }

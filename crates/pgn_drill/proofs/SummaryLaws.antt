@@ -35,6 +35,7 @@ brief-is seed notes journal traces =
     (codes "aborted ") (decimal (count_by (λ tx. not (is_committed tx.fate)) journal)) (codes "received ") (decimal (received_in traces)) (codes "\n")
 
 module _ {T E : Type 0} (old mid new : Option (List ℕ)) (result : Result T E) (seed notes : ℕ) (journal : List Tx) (traces : List Trace) where
+  -- a head and then the counts, written each, are the summary written
   pub summary-written : (received : ℕ) → received ≡ received_in traces → Appends old mid (head_text seed (length traces) notes)
       → Writes mid new result (counts_text journal received) → Writes old new result (brief seed notes journal traces)
   summary-written received is head counts =
@@ -42,6 +43,7 @@ module _ {T E : Type 0} (old mid new : Option (List ℕ)) (result : Result T E) 
       let counted = subst (λ (n : ℕ). Writes old new result (head_text seed (length traces) notes ++ counts_text journal n)) is all in
       subst (λ (bytes : List ℕ). Writes old new result bytes) (brief-is seed notes journal traces) counted
 
+-- a prefix of the head is one of the summary
 pub summary-begun : (old new : Option (List ℕ)) (seed notes : ℕ) (journal : List Tx) (traces : List Trace) → AppendsPrefix old new (head_text seed (length traces) notes)
     → AppendsPrefix old new (brief seed notes journal traces)
 summary-begun old new seed notes journal traces h =

@@ -7,7 +7,8 @@ use pgn_model::{Item, Trace};
 
 /// How many notifications all traces received. There is no answer exactly where they are 2^64 or more.
 pub fn received(traces: &[Trace]) -> Option<u64>
-    ensures { MatchOption result (18446744073709551616 ≤ received_in traces.now) (λ n. n ≡ received_in traces.now) }
+    ensures { MatchOption result (18446744073709551616 ≤ received_in traces.now) (λ n.
+        n ≡ received_in traces.now) }
 {
     let mut count = 0;
     for trace in traces {
@@ -21,7 +22,8 @@ pub fn received(traces: &[Trace]) -> Option<u64>
 
 // A number and how many notifications items received.
 fn with_items(before: u64, items: &[Item]) -> Option<u64>
-    ensures { MatchOption result (18446744073709551616 ≤ before + sum_by received_by items.now) (λ n. n ≡ before + sum_by received_by items.now) }
+    ensures { MatchOption result (18446744073709551616 ≤ before + sum_by received_by items.now)
+        (λ n. n ≡ before + sum_by received_by items.now) }
 {
     let mut count = before;
     for item in items {

@@ -1,6 +1,6 @@
 #![tactic(auto, using(pgn_base::proofs::OutsideLaws::writings))]
 
-ghost use Rattle.std.specs.Prelude.{◌≡◌, ◌<◌, ◌++◌, ◌∷◌, [], codes, count_by, decimal, length, not};
+ghost use Rattle.std.specs.Prelude.{◌<◌, ◌++◌, codes, count_by, decimal, length, not};
 ghost use Rattle.pgn_base.specs.Outside.{HasCause, Writes};
 ghost use Rattle.pgn_journal.specs.Journal.{is_committed};
 ghost use Rattle.pgn_model.specs.Text.{brief, received_in};
@@ -20,7 +20,8 @@ pub fn summary<K: Sink>(
     traces: &[Trace],
 ) -> Result<(), Failed>
     requires { received_in traces.now < 18446744073709551616 }
-    ensures bytes { Writes (K.held sink.old) (K.held sink.new) result (brief seed notes journal.now traces.now) }
+    ensures bytes { Writes (K.held sink.old) (K.held sink.new) result
+        (brief seed notes journal.now traces.now) }
     ensures cause { HasCause (K.faults sink.old) (K.faults sink.new) result }
 {
     match head(sink, seed, traces.len() as u64, notes as u64) {
@@ -31,7 +32,9 @@ pub fn summary<K: Sink>(
 
 // The first line.
 fn head<K: Sink>(sink: &mut K, seed: u64, sessions: u64, notes: u64) -> Result<(), Failed>
-    ensures bytes { Writes (K.held sink.old) (K.held sink.new) result (((codes "drill seed " ++ decimal seed) ++ (codes " sessions " ++ decimal sessions)) ++ (codes " notes " ++ decimal notes ++ codes "\n")) }
+    ensures bytes { Writes (K.held sink.old) (K.held sink.new) result
+        (((codes "drill seed " ++ decimal seed) ++ (codes " sessions " ++ decimal sessions)) ++
+        (codes " notes " ++ decimal notes ++ codes "\n")) }
     ensures cause { HasCause (K.faults sink.old) (K.faults sink.new) result }
 {
     match front(sink, seed, sessions) {
@@ -41,7 +44,8 @@ fn head<K: Sink>(sink: &mut K, seed: u64, sessions: u64, notes: u64) -> Result<(
 }
 
 fn front<K: Sink>(sink: &mut K, seed: u64, sessions: u64) -> Result<(), Failed>
-    ensures bytes { Writes (K.held sink.old) (K.held sink.new) result ((codes "drill seed " ++ decimal seed) ++ (codes " sessions " ++ decimal sessions)) }
+    ensures bytes { Writes (K.held sink.old) (K.held sink.new) result
+        ((codes "drill seed " ++ decimal seed) ++ (codes " sessions " ++ decimal sessions)) }
     ensures cause { HasCause (K.faults sink.old) (K.faults sink.new) result }
 {
     match number(sink, b"drill seed ", seed) {
@@ -52,10 +56,12 @@ fn front<K: Sink>(sink: &mut K, seed: u64, sessions: u64) -> Result<(), Failed>
 
 // The other four.
 fn counts<K: Sink>(sink: &mut K, journal: &[Tx], received: u64) -> Result<(), Failed>
-    ensures bytes { Writes (K.held sink.old) (K.held sink.new) result (((codes "journal " ++ decimal (length journal.now) ++ codes "\n")
-        ++ (codes "committed " ++ decimal (count_by (λ tx. is_committed tx.fate) journal.now) ++ codes "\n"))
-        ++ ((codes "aborted " ++ decimal (count_by (λ tx. not (is_committed tx.fate)) journal.now) ++ codes "\n")
-        ++ (codes "received " ++ decimal received ++ codes "\n"))) }
+    ensures bytes { Writes (K.held sink.old) (K.held sink.new) result
+        (((codes "journal " ++ decimal (length journal.now) ++ codes "\n") ++
+        (codes "committed " ++ decimal (count_by (λ tx. is_committed tx.fate) journal.now) ++
+        codes "\n")) ++
+        ((codes "aborted " ++ decimal (count_by (λ tx. not (is_committed tx.fate)) journal.now)
+        ++ codes "\n") ++ (codes "received " ++ decimal received ++ codes "\n"))) }
     ensures cause { HasCause (K.faults sink.old) (K.faults sink.new) result }
 {
     match both(
@@ -78,7 +84,8 @@ fn both<K: Sink>(
     next: &[u8],
     second: u64,
 ) -> Result<(), Failed>
-    ensures bytes { Writes (K.held sink.old) (K.held sink.new) result ((head.now ++ decimal first ++ codes "\n") ++ (next.now ++ decimal second ++ codes "\n")) }
+    ensures bytes { Writes (K.held sink.old) (K.held sink.new) result
+        ((head.now ++ decimal first ++ codes "\n") ++ (next.now ++ decimal second ++ codes "\n")) }
     ensures cause { HasCause (K.faults sink.old) (K.faults sink.new) result }
 {
     match line(sink, head, first) {
@@ -89,7 +96,8 @@ fn both<K: Sink>(
 
 // A line that ends with a number.
 fn line<K: Sink>(sink: &mut K, head: &[u8], number_at_its_end: u64) -> Result<(), Failed>
-    ensures bytes { Writes (K.held sink.old) (K.held sink.new) result (head.now ++ decimal number_at_its_end ++ codes "\n") }
+    ensures bytes { Writes (K.held sink.old) (K.held sink.new) result
+        (head.now ++ decimal number_at_its_end ++ codes "\n") }
     ensures cause { HasCause (K.faults sink.old) (K.faults sink.new) result }
 {
     match number(sink, head, number_at_its_end) {

@@ -55,7 +55,9 @@ fn awaits(text: &mut Vec<u8>, sessions: u32) -> Result<(), AllocError>
 
 // The notifications of a session, and the state after their draws.
 fn sending(text: &mut Vec<u8>, state: u64, notes: u32) -> Result<u64, AllocError>
-    ensures { (seed drawn : ℕ) → state ≡ state_after seed drawn → IfOk result (λ after. (after ≡ state_after seed (drawn + notes))
+    ensures { (seed drawn : ℕ) → state ≡ state_after seed drawn
+        → IfOk result (λ after.
+        (after ≡ state_after seed (drawn + notes))
         × AddsLines text.old.items text.new.items (up_to (sent_lines seed drawn) notes)) }
 {
     let mut now = state;
@@ -103,7 +105,9 @@ fn in_block(text: &mut Vec<u8>, j: u64, r: u64) -> Result<(), AllocError>
 
 // The line that begins a session.
 fn session(text: &mut Vec<u8>, i: u64) -> Result<(), AllocError>
-    ensures { OnOk result (AddsLines text.old.items text.new.items ((codes "\\session d" ++ decimal i ++ codes " 1") ∷ [])) }
+    ensures { OnOk result
+        (AddsLines text.old.items text.new.items
+        ((codes "\\session d" ++ decimal i ++ codes " 1") ∷ [])) }
 {
     put(text, b"\\session d")?;
     put(text, Buffer::new().format(i).as_bytes())?;
@@ -113,7 +117,8 @@ fn session(text: &mut Vec<u8>, i: u64) -> Result<(), AllocError>
 
 // A line that ends with a number.
 fn numbered(text: &mut Vec<u8>, head: &[u8], number: u64) -> Result<(), AllocError>
-    ensures { OnOk result (AddsLines text.old.items text.new.items ((head.now ++ decimal number) ∷ [])) }
+    ensures { OnOk result
+        (AddsLines text.old.items text.new.items ((head.now ++ decimal number) ∷ [])) }
 {
     put(text, head)?;
     put(text, Buffer::new().format(number).as_bytes())?;

@@ -212,9 +212,6 @@ value-walk p t w h = ap (λ (m : Held × Step). after_step rules w (at p t) m.0 
 abbrev Claim : Bool → List Text → Type 0
 Claim t words = (p : Placed) → Agrees IsDrill (with_more p (left t words)) (total drill_built (at p t) words) (found drill_built (at p t) words)
 
-stays : (p : Placed) (t : Bool) (w : Text) (next : Placed) → ((b : Bool) → after_step rules w (at p b) (held_at p) value ≡ at next b) → IsValue p t w → walked rules [] (at p t) w ≡ at next t
-stays p t w next comes h = value-walk p t w h ∙ comes t
-
 place : (t : Bool) (w : Text) (words : List Text) → Claim t words → (p : Placed) → IsValue p t w
     → Agrees IsDrill (with_more p (w ∷ left t words)) (total drill_built (at p t) (w ∷ words)) (found drill_built (at p t) (w ∷ words))
 place t w words claim p0 h =

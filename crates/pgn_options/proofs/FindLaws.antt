@@ -92,6 +92,7 @@ drill-takes-none _ name (FindsOthers which rows given f e) named drill =
     let is : bytes_eq name (codes "drill") ≡ false = ap (λ (n : Text). bytes_eq n (codes "drill")) same ∙ not-drill which in
     cc
 
+-- what `wire` may be given is never too much
 pub wire-takes-none : (s : Option (Text × List Row)) (name : Text) → FindsTooMuch s → Some name ≡ option_map (λ p. p.0) s → bytes_eq name (codes "wire") ≡ true → ⊥
 wire-takes-none _ name (FindsOthers which rows given f e) named wire =
     let same : name ≡ word_of which = cc in
@@ -117,6 +118,7 @@ finds-with which _ _ name rows options (FindsWire there) named has is reads =
     let good : bytes_eq (word_of which) (codes "wire") ≡ false = not-wire which in
     absurd (cc)
 
+-- where the options of a command are too much they name nothing that can be asked for
 pub finds-others : (which : Optioned) (s : Option (Text × List Row)) (name : Text) (rows : List Row) (options : Options)
     → FindsTooMuch s → Some name ≡ option_map (λ p. p.0) s → Some rows ≡ option_map (λ p. p.1) s → name ≡ word_of which
     → ((given : Options) → FindsOptions rows given → options ≡ given) → asked_with which options ≡ None
@@ -131,6 +133,7 @@ serves OfRun name is run check = let bad : bytes_eq name (codes "run") ≡ true 
 serves OfCheck name is run check = let bad : bytes_eq name (codes "check") ≡ true = (bytes_eq-Decides name (codes "check")).1 is in absurd (cc)
 serves OfServe name is run check = is
 
+-- a command that is found and is none of the others is `serve`
 pub finds-serve : (s : Option (Text × List Row)) (asked : Asked) (name : Text) → Finds s asked → Some name ≡ option_map (λ p. p.0) s
     → bytes_eq name (codes "run") ≡ false → bytes_eq name (codes "drill") ≡ false → bytes_eq name (codes "wire") ≡ false → bytes_eq name (codes "check") ≡ false → name ≡ word_of OfServe
 finds-serve _ _ name (FindsWith which there given asked f e) named run drill wire check = let is : name ≡ word_of which = cc in serves which name is run check
@@ -143,6 +146,7 @@ finds-serve _ _ name (FindsWire there) named run drill wire check =
     let bad : bytes_eq name (codes "wire") ≡ true = (bytes_eq-Decides name (codes "wire")).1 same in
     absurd (cc)
 
+-- a command that is given too much, and is not `run` or `check`, is `serve`
 pub serve-takes : (s : Option (Text × List Row)) (name : Text) → FindsTooMuch s → Some name ≡ option_map (λ p. p.0) s → bytes_eq name (codes "run") ≡ false → bytes_eq name (codes "check") ≡ false
     → name ≡ word_of OfServe
 serve-takes _ name (FindsOthers which rows given f e) named run check = let is : name ≡ word_of which = cc in serves which name is run check

@@ -38,6 +38,7 @@ hyphened : (xs : Text) → Form (45 ∷ xs)
 hyphened [] = plain (45 ∷ []) (record { front = refl; not_dashes = refl; no_long = refl }) refl
 hyphened (y ∷ ys) = behind y ys
 
+-- each word has one of the forms that a walk over words tells apart
 pub form : (w : Text) → Form w
 form [] = plain [] (record { front = refl; not_dashes = refl; no_long = refl }) refl
 form (x ∷ xs) = elim (eqb_tells x 45) [

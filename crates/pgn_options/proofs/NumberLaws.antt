@@ -22,6 +22,7 @@ tests true false false false n h = refl
 fits : (n most : ℕ) → most ≤ 18446744073709551615 → nat_le n most ≡ true → nat_lt n 18446744073709551616 ≡ true
 fits n most h e = grind (arith, nat_tests)
 
+-- a word is accepted as a number between two bounds where it is one
 pub accepted : (least most : ℕ) (word : List ℕ) → most ≤ 18446744073709551615 → accepts false (Unsigned least most) word ≡ is_some (number_in least most word)
 accepted least most word h = tests _ _ _ _ _ (fits _ most h)
 
@@ -49,6 +50,7 @@ pub passed : (least most : ℕ) (word : List ℕ) (n : ℕ) (kinds : Kinds) → 
     → number_in least most word ≡ Some n → kinds ≡ []
 passed least most word n kinds h is e = is ∙ ap (λ (k : Kinds). or_else k []) (value-kinds-are least most word (Some n) h e)
 
+-- a choice on what is true anyhow is the first
 pub either : {A : Type 0} (b : Bool) (x y : A) → cond (b || true) x y ≡ x
 either true x y = refl
 either false x y = refl

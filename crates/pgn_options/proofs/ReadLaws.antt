@@ -34,6 +34,7 @@ reads E G least most word n None fits is read only =
     let passes = accepts-Accepts false (Unsigned least most) word (accepted least most word fits ∙ ap is_some is) in
     absurd (only word (Err read.0) read.1 (passes.0, passes.1))
 
+-- an option's number that was read from what was found is the one that stands there
 pub found-reads : (E : Type 0) (G : List ℕ → Result ℕ E → Type 0) (found : Found) (id : List ℕ) (r : Option ℕ)
     → (one_text found id ≡ None → r ≡ None) → ((t : List ℕ) → one_text found id ≡ Some t → ReadsOne G t r)
     → ((u : List ℕ) (x : Result ℕ E) → G u x → ParsesUnsigned 64 10 u x)

@@ -123,6 +123,7 @@ is_live [] = false
 is_live (number key word n e ∷ uses) = is_live uses
 is_live (live ∷ uses) = true
 
+-- the options that a command has been given by these uses
 abbrev pub options_for : List Use → Options
 options_for uses = record { pages = value_of Pages uses; patience = value_of Patience uses; format = value_of FormatNumber uses; seats = value_of Seats uses; live = is_live uses }
 
@@ -841,6 +842,7 @@ walk-renamed which w (word ∷ words) =
 total-renamed : (which : Optioned) (words : List Text) → total (options_built which) (walk_from nothing_held) words ≡ total run_built (walk_from nothing_held) words
 total-renamed which words = ap (λ (k : Kinds). or_else k (ending run_built (walk_end run_built (walk_from nothing_held) words))) (walk-renamed which (walk_from nothing_held) words)
 
+-- a walk over the words and what the rules of the command line find of them agree
 pub options-agree : (which : Optioned) (words : List Text)
     → Agrees IsUsed (options_after words no_options None) (total (options_built which) (walk_from nothing_held) words) (found (options_built which) (walk_from nothing_held) words)
 options-agree which words =
@@ -924,6 +926,7 @@ not-live : (b : Bool) → b ≡ false → one_of (codes "live") (live_default b)
 not-live true e = absurd (cc)
 not-live false e = refl
 
+-- what stands at the end of a walk is found as the options that were used
 pub options-found : (now : List Use) → FindsOptions (rows_at_end now) (options_for now)
 options-found now =
     subst (λ (rows : List Row). FindsOptions rows (options_for now)) (sym (at-end now))

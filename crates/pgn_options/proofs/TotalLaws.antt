@@ -2,14 +2,16 @@
 use Rattle.std.proofs.Common.{◌≡◌, ◌∙◌, false, List, [], ◌∷◌, Option, Some, None, refl, ap, sym, subst}
 use Rattle.std.specs.Prelude.{fold}
 use Rattle.clap.specs.Kinds.{Kinds, or_else}
-use Rattle.clap.specs.Walk.{Held, Row, Text, Walk, finished, settled, walk_from, walked, nothing_held}
+use Rattle.clap.specs.Walk.{Held, Row, Text, Walk, finished, settled, walked}
 use Rattle.clap.specs.Simple.{Shape}
-use Rattle.clap.specs.Faults.{check_fault, defaults_fault, level_fault, settle_fault, turn_fault, walk_fault}
+use Rattle.clap.specs.Faults.{check_fault, defaults_fault, settle_fault, turn_fault, walk_fault}
 
+-- where one list of faults or else another is empty the first one is
 pub or-first : (a b : Kinds) → or_else a b ≡ [] → a ≡ []
 or-first [] b e = refl
 or-first (k ∷ ks) b e = e
 
+-- and the second one is
 pub or-second : (a b : Kinds) → or_else a b ≡ [] → b ≡ []
 or-second [] b e = e
 or-second (k ∷ ks) b e = absurd (cc)
@@ -18,10 +20,12 @@ or-assoc : (a b c : Kinds) → or_else (or_else a b) c ≡ or_else a (or_else b 
 or-assoc [] b c = refl
 or-assoc (k ∷ ks) b c = refl
 
+-- or else nothing is what stood before
 pub or-none : (a : Kinds) → or_else a [] ≡ a
 or-none [] = refl
 or-none (k ∷ ks) = refl
 
+-- no faults of two are none of both
 pub both-none : (a b : Kinds) → a ≡ [] → b ≡ [] → or_else a (or_else b []) ≡ []
 both-none a b h k = ap (λ (x : Kinds). or_else x (or_else b [])) h ∙ ap (λ (x : Kinds). or_else x []) k
 
@@ -43,9 +47,7 @@ total s w words = or_else (walk_fault s [] w words) (ending s (walk_end s w word
 abbrev pub found : Shape → Walk → List Text → List Row
 found s w words = finished s.rules (walk_end s w words)
 
-pub level-is : (s : Shape) (words : List Text) → level_fault s [] nothing_held words false [] ≡ total s (walk_from nothing_held) words
-level-is s words = refl
-
+-- the faults of no words are those of the end
 pub total-nil : (s : Shape) (w : Walk) → total s w [] ≡ ending s w.held
 unfolding walk_fault
 total-nil s w = refl

@@ -6,7 +6,7 @@ use Rattle.std.proofs.lemmas.Slice.Eq.{bytes_eq-Decides}
 use Rattle.clap.specs.Kinds.{HasKind, IsAmong, Kinds, or_else}
 use Rattle.clap.specs.Faults.{check_fault, defaults_fault, entered_fault, fault_of, flags_fault, is_simple_and_free, settle_fault, turn_fault, walk_fault}
 use Rattle.clap.specs.Walk.{Names, Row, Text, Walk, bundle_met, finished, nothing_held, settled, walk_from, walked}
-use Rattle.clap.specs.Simple.{App, Shape, built, entered, is_simple, subcommand_of}
+use Rattle.clap.specs.Simple.{App, Shape, entered, is_simple, subcommand_of}
 use Rattle.clap.specs.Values.{kind_of}
 use Rattle.clap.specs.declared.error.Error.{Error}
 use Rattle.clap.specs.declared.error.kind.ErrorKind.{ErrorKind}
@@ -31,9 +31,6 @@ program_built = record program_shape { is_leaf = false; is_built = true }
 
 abbrev app : App
 app = record { top = program_built; subs = drill_built ∷ wire_built ∷ options_built OfRun ∷ options_built OfCheck ∷ options_built OfServe ∷ [] }
-
-built-is : built program_app ≡ app
-built-is = refl
 
 abbrev names : Names
 names = (codes "drill", []) ∷ (codes "wire", []) ∷ (codes "run", []) ∷ (codes "check", []) ∷ (codes "serve", []) ∷ []
@@ -248,6 +245,7 @@ simple : is_simple_and_free program_app ≡ true
 simple = refl
 
 module _ (a : App) (is : a ≡ program_app) (words : List Text) where
+  -- words that the rules take are answered by what they ask for, or refused where they are given too much
   pub parsed : (sub : Option (Text × List Row)) (r : Result Asked WordsFault) → (is_simple_and_free a ≡ true → fault_of a words ≡ [])
       → (is_simple a ≡ true → sub ≡ subcommand_of a words)
       → ((asked : Asked) → Finds sub asked → r ≡ Ok asked) → (FindsTooMuch sub → r ≡ Err BadWords) → IfOk r (AskFor words) × (r ≡ Err BadWords → AreNoCommand words) × IfOk r IsWithin
@@ -256,6 +254,7 @@ module _ (a : App) (is : a ≡ program_app) (words : List Text) where
       let there : sub ≡ subcommand_of program_app words = finds (ap is_simple is) ∙ ap (λ (x : App). subcommand_of x words) is in
       came (asked_by words) _ sub r (subst (λ (x : Option (Text × List Row)). Comes (asked_by words) (fault_of program_app words) x) (sym there) (words-come words)) none gives refused
 
+  -- words that are refused for anything but want of memory are no command
   pub unparsed : (e : Error) (w : WordsFault) → (is_simple_and_free a ≡ true → HasKind (fault_of a words) e) → (kind_of e ≡ OutOfMemory → w ≡ Memory)
       → w ≡ BadWords → AreNoCommand words
   unparsed e w fails memory bad = elim (fails (ap is_simple_and_free is ∙ simple)) [

@@ -1,4 +1,4 @@
-ghost use Rattle.std.specs.Prelude.{◌≡◌, false, [], None, Some, IfOk, pos};
+ghost use Rattle.std.specs.Prelude.{◌≡◌, false, [], IfOk};
 ghost use Rattle.clap.specs.Simple.{app_of, shape_of, with_rule, with_subcommand};
 ghost use Rattle.clap.specs.Walk.{rule_of};
 ghost use Rattle.clap.specs.declared.builder.command.Command.TheViews.{out-Command};
@@ -37,7 +37,8 @@ fn with_options<'a>(
     command: Command<'a>,
     name: &'a str,
 ) -> Result<Command<'a>, AllocError>
-    ensures { IfOk result (λ whole. app_of whole ≡ with_subcommand (app_of command.entry) (options_app name.now).top) }
+    ensures { IfOk result (λ whole.
+        app_of whole ≡ with_subcommand (app_of command.entry) (options_app name.now).top) }
 {
     match options(alloc, name) {
         Ok(below) => with_command(command, below),
@@ -63,7 +64,8 @@ fn program<'a>(alloc: Global) -> Command<'a>
 // A command with this one below it.
 fn with_command<'a>(command: Command<'a>, below: Command<'a>) -> Result<Command<'a>, AllocError>
     requires { (out-Command below).has_globals ≡ false }
-    ensures { IfOk result (λ whole. app_of whole ≡ with_subcommand (app_of command.entry) (shape_of below.entry)) }
+    ensures { IfOk result (λ whole.
+        app_of whole ≡ with_subcommand (app_of command.entry) (shape_of below.entry)) }
 {
     command.subcommand(below)
 }
@@ -103,7 +105,8 @@ fn drill<'a>(alloc: Global) -> Result<Command<'a>, AllocError>
 fn with_argument<'a>(command: Command<'a>, argument: Arg<'a>) -> Result<Command<'a>, AllocError>
     requires own { (out-Command command).has_globals ≡ false }
     requires local { argument.global ≡ false }
-    ensures app { IfOk result (λ whole. app_of whole ≡ with_rule (app_of command.entry) (rule_of argument.entry)) }
+    ensures app { IfOk result (λ whole.
+        app_of whole ≡ with_rule (app_of command.entry) (rule_of argument.entry)) }
     ensures local { IfOk result (λ whole. (out-Command whole).has_globals ≡ false) }
 {
     command.arg(argument)

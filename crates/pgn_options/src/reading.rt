@@ -1,13 +1,13 @@
-ghost use Rattle.std.specs.Prelude.{◌≡◌, ◌≢◌, ◌≤◌, ◌<◌, ℕ, Bool, codes, List, Option, Ok, Some, None, Err, map, IfOk, option_map, unwrap_or};
+ghost use Rattle.std.specs.Prelude.{◌≡◌, ◌≤◌, ℕ, Bool, codes, Option, Ok, Err, map, IfOk, unwrap_or};
 ghost use Rattle.clap.specs.Matches.{found_of};
-ghost use Rattle.clap.specs.Walk.{one_of, rows_of};
+ghost use Rattle.clap.specs.Walk.{rows_of};
 ghost use Rattle.clap.specs.Simple.{subcommand_rows_of};
 ghost use Rattle.clap.specs.declared.error.kind.ErrorKind.TheVariants.{OutOfMemory};
 ghost use Rattle.pgn_options.specs.declared.asked.Asked.{Asked};
 ghost use Rattle.pgn_options.specs.declared.asked.Asked.TheVariants.{Drill};
 ghost use Rattle.pgn_options.specs.declared.options.Options.{Options};
 ghost use Rattle.pgn_options.specs.Parse.{Finds, FindsNumbers, FindsOptions, FindsTooMuch, IsFoundAs, IsFoundFlag};
-ghost use Rattle.pgn_options.specs.Words.{AreNoCommand, AskFor, IsWithin, check_with, format_numbered, number_in, run_with, serve_with};
+ghost use Rattle.pgn_options.specs.Words.{AreNoCommand, AskFor, IsWithin, check_with, format_numbered, run_with, serve_with};
 
 use crate::command::command;
 use crate::options::Options;
@@ -29,7 +29,8 @@ pub enum WordsFault {
 pub fn read_words<'a>(alloc: Global, words: &'a [&'a str]) -> Result<Asked, WordsFault>
     ensures asked { IfOk result (λ asked. AskFor (map (λ word. word.now) words.now) asked) }
     ensures within { IfOk result IsWithin }
-    ensures bad_words { result ≡ Err WordsFault.BadWords → AreNoCommand (map (λ word. word.now) words.now) }
+    ensures bad_words { result ≡ Err WordsFault.BadWords
+        → AreNoCommand (map (λ word. word.now) words.now) }
 {
     let command = match command(alloc) {
         Ok(command) => command,
@@ -53,8 +54,10 @@ fn fault_of(kind: ErrorKind) -> WordsFault
 
 // What a command that was found asks for.
 fn asked_of(matches: &ArgMatches<'_>) -> Result<Asked, WordsFault>
-    ensures found { (asked : Asked) → Finds (subcommand_rows_of matches.now) asked → result ≡ Ok asked }
-    ensures too_much { FindsTooMuch (subcommand_rows_of matches.now) → result ≡ Err WordsFault.BadWords }
+    ensures found { (asked : Asked) → Finds (subcommand_rows_of matches.now) asked
+        → result ≡ Ok asked }
+    ensures too_much { FindsTooMuch (subcommand_rows_of matches.now)
+        → result ≡ Err WordsFault.BadWords }
 {
     let Some((name, found)) = matches.subcommand() else {
         return Err(WordsFault::BadWords);
@@ -74,7 +77,8 @@ fn asked_of(matches: &ArgMatches<'_>) -> Result<Asked, WordsFault>
 
 // The options that were found.
 fn options_of(found: &ArgMatches<'_>) -> Options
-    ensures { (given : Options) → FindsOptions (rows_of (found_of found.now)) given → result ≡ given }
+    ensures { (given : Options) → FindsOptions (rows_of (found_of found.now)) given
+        → result ≡ given }
 {
     Options {
         pages: small_of(found, "pages"),
@@ -138,13 +142,16 @@ fn format_of(number: Option<u64>) -> Format
 
 // Whether `--live` was found.
 fn live_of(found: &ArgMatches<'_>) -> bool
-    ensures { (given : Bool) → IsFoundFlag (codes "live") (rows_of (found_of found.now)) given → result ≡ given }
+    ensures { (given : Bool) → IsFoundFlag (codes "live") (rows_of (found_of found.now)) given
+        → result ≡ given }
 {
     found.get_flag("live")
 }
 
 fn drill_of(found: &ArgMatches<'_>) -> Result<Asked, WordsFault>
-    ensures { (seed sessions notes : ℕ) → FindsNumbers (rows_of (found_of found.now)) seed sessions notes → result ≡ Ok (Drill seed sessions notes) }
+    ensures { (seed sessions notes : ℕ)
+        → FindsNumbers (rows_of (found_of found.now)) seed sessions notes
+        → result ≡ Ok (Drill seed sessions notes) }
 {
     let Some(seed) = number_of(found, "seed") else {
         return Err(WordsFault::BadWords);
@@ -164,14 +171,16 @@ fn drill_of(found: &ArgMatches<'_>) -> Result<Asked, WordsFault>
 
 // The number that was found for an argument, if one was.
 fn number_of(found: &ArgMatches<'_>, id: &str) -> Option<u64>
-    ensures { (least most : ℕ) (number : Option ℕ) → most ≤ 18446744073709551615 → IsFoundAs least most id.now (rows_of (found_of found.now)) number → result ≡ number }
+    ensures { (least most : ℕ) (number : Option ℕ) → most ≤ 18446744073709551615
+        → IsFoundAs least most id.now (rows_of (found_of found.now)) number → result ≡ number }
 {
     found.get_one::<u64>(id)
 }
 
 // The same where it is one of 32 bits.
 fn small_of(found: &ArgMatches<'_>, id: &str) -> Option<u32>
-    ensures { (least most : ℕ) (number : Option ℕ) → most ≤ 4294967295 → IsFoundAs least most id.now (rows_of (found_of found.now)) number → result ≡ number }
+    ensures { (least most : ℕ) (number : Option ℕ) → most ≤ 4294967295
+        → IsFoundAs least most id.now (rows_of (found_of found.now)) number → result ≡ number }
 {
     match number_of(found, id) {
         Some(number) => Some(small(number)),

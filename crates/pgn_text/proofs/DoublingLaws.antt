@@ -1,7 +1,6 @@
 -- Laws of a text whose quotes stand twice, written by runs that end with a quote.
-use Rattle.std.proofs.Common.{◌≡◌, ℕ, ◌+◌, ◌-◌, ◌<◌, ◌≤◌, Bool, true, suc, cond, List, [], ◌∷◌, ◌++◌, length, take, drop, get_or, sym, ap, ◌∙◌, refl, inl, inr, arith, append_assoc, append-nil, add-one, drop-cons}
+use Rattle.std.proofs.Common.{◌≡◌, ℕ, ◌+◌, ◌-◌, ◌<◌, ◌≤◌, Bool, true, suc, cond, List, [], ◌∷◌, ◌++◌, length, take, drop, get_or, sym, ap, ◌∙◌, refl, inl, inr, arith, append_assoc, add-one, drop-cons}
 use Rattle.std.specs.Prelude.{flat_map, ◌==◌}
-use Rattle.std.proofs.lemmas.List.{drop_all, take_rest}
 use Rattle.std.proofs.lemmas.List.Edits.{between_more}
 use Rattle.std.proofs.lemmas.Bool.{false_from_ne_true}
 use Rattle.std.proofs.lemmas.Bool.Decides.{eqb_tells}
@@ -21,6 +20,7 @@ doubled_byte-quote quote byte same = elim (eqb_tells byte quote) [ inl h ↦ ap 
 abbrev pub pending : ℕ → List ℕ → ℕ → ℕ → List ℕ
 pending quote text start i = take (i - start) (drop start text) ++ flat_map (doubled_byte quote) (drop i text)
 
+-- a byte that is no quote joins what is still to be written
 pub pending-other : (quote : ℕ) (text : List ℕ) (start i : ℕ) → start ≤ i → i < length text → (get_or text i 0 ≡ quote → ⊥) → pending quote text start i ≡ pending quote text start (i + 1)
 pending-other quote text start i le lt other =
     let run : List ℕ = take (i - start) (drop start text) in
@@ -29,6 +29,7 @@ pending-other quote text start i le lt other =
     ap (λ t. run ++ t) (flat_map-drop_at (doubled_byte quote) text i 0 lt ∙ ap (λ t. t ++ rest) (doubled_byte-other quote byte other))
     ∙ sym (append_assoc run (byte ∷ []) rest) ∙ ap (λ t. t ++ rest) (sym (between_more text start i 0 le lt))
 
+-- a quote ends a run, and begins the next as its second
 pub pending-quote : (quote : ℕ) (text : List ℕ) (start i : ℕ) → start ≤ i → i < length text → get_or text i 0 ≡ quote → pending quote text start i ≡ take (i + 1 - start) (drop start text) ++ pending quote text i (i + 1)
 pending-quote quote text start i le lt same =
     let run : List ℕ = take (i - start) (drop start text) in
@@ -40,11 +41,6 @@ pending-quote quote text start i le lt same =
     ap (λ t. run ++ t) (flat_map-drop_at (doubled_byte quote) text i 0 lt ∙ ap (λ t. t ++ rest) (doubled_byte-quote quote byte same))
     ∙ sym (append_assoc run (quote ∷ []) (quote ∷ rest)) ∙ ap (λ t. t ++ (quote ∷ rest)) (sym ended)
     ∙ ap (λ t. take (i + 1 - start) (drop start text) ++ (t ++ rest)) (sym next)
-
-pub pending-all : (quote : ℕ) (text : List ℕ) (start : ℕ) → pending quote text start (length text) ≡ drop start text
-pending-all quote text start =
-    ap (λ t. take (length text - start) (drop start text) ++ flat_map (doubled_byte quote) t) (drop_all (length text) text (omega arith))
-    ∙ append-nil (take (length text - start) (drop start text)) ∙ take_rest text start
 
 -- a text with no quote stays as it is
 pub doubled-none : (quote : ℕ) (text : List ℕ) → ((k : ℕ) → k < length text → (get_or text k 0 == quote) ≡ true → ⊥) → flat_map (doubled_byte quote) text ≡ text

@@ -13,4 +13,5 @@ line_text-drop n lines i line h e = ap (line_text n) (drop-cons lines i line h) 
 pub lines_of-drop : (n : ℕ) (sections : List Section) (i : ℕ) (section : Section) → i < length sections → section ≡ get_or sections i section → lines_of n (drop i sections) ≡ cond (eqb section.no n) section.lines (lines_of n (drop (i + 1) sections))
 lines_of-drop n sections i section h e = ap (lines_of n) (drop-cons sections i section h) ∙ ap (λ (y : Section). cond (eqb y.no n) y.lines (lines_of n (drop (suc i) sections))) (sym e) ∙ ap (λ j. cond (eqb section.no n) section.lines (lines_of n (drop j sections))) (sym (add-one i))
 
+-- the lines of a script from a place on
 pub ruleset line_laws = (line_text-drop, lines_of-drop)

@@ -68,6 +68,7 @@ pub joined-append : (first second : List (List ℕ)) → joined (first ++ second
 joined-append [] second = refl
 joined-append (line ∷ lines) second = ap (λ t. line ++ 10 ∷ [] ++ t) (joined-append lines second) ∙ sym (append_assoc (line ++ 10 ∷ []) (joined lines) (joined second))
 
+-- what writes lines, and then others, writes both
 pub Puts-lines : {S : Type 0} {held : S → Option (List ℕ)} {faults : S → ℕ} {s₀ s₁ s₂ : S} {o₀ o₁ o₂ : Out} (first second : List (List ℕ)) → Puts held faults s₀ o₀ s₁ o₁ (joined first) → Puts held faults s₁ o₁ s₂ o₂ (joined second) → Puts held faults s₀ o₀ s₂ o₂ (joined (first ++ second))
 Puts-lines first second a b = Puts-same (sym (joined-append first second)) (Puts-trans a b)
 
@@ -133,9 +134,11 @@ pub record Toward {S : Type 0} (held : S → Option (List ℕ)) (faults : S → 
   pub puts : Puts held faults s₀ o₀ s₁ o₁ written
   pub all : written ++ rest ≡ whole
 
+-- before the first piece a whole is still to be written
 pub Toward-none : {S : Type 0} (held : S → Option (List ℕ)) (faults : S → ℕ) (sink : S) (out : Out) (whole : List ℕ) → Toward held faults sink out sink out whole whole
 Toward-none held faults sink out whole = record { written = []; puts = Puts-none held faults sink out; all = refl }
 
+-- behind a piece of it the rest is
 pub Toward-more : {S : Type 0} {held : S → Option (List ℕ)} {faults : S → ℕ} {s₀ s₁ s₂ : S} {o₀ o₁ o₂ : Out} {piece rest rest' whole : List ℕ}
     → Toward held faults s₀ o₀ s₁ o₁ rest whole → Puts held faults s₁ o₁ s₂ o₂ piece → rest ≡ piece ++ rest' → Toward held faults s₀ o₀ s₂ o₂ rest' whole
 Toward-more {piece = piece} {rest' = rest'} t p e = record {
@@ -148,6 +151,7 @@ Toward-more {piece = piece} {rest' = rest'} t p e = record {
 pub Toward-last : {S : Type 0} {held : S → Option (List ℕ)} {faults : S → ℕ} {s₀ s₁ s₂ : S} {o₀ o₁ o₂ : Out} {rest whole : List ℕ} → Toward held faults s₀ o₀ s₁ o₁ rest whole → Puts held faults s₁ o₁ s₂ o₂ rest → Puts held faults s₀ o₀ s₂ o₂ whole
 Toward-last t p = Puts-same t.all (Puts-trans t.puts p)
 
+-- with no rest the whole is written
 pub Toward-all : {S : Type 0} {held : S → Option (List ℕ)} {faults : S → ℕ} {s₀ s₁ : S} {o₀ o₁ : Out} {rest whole : List ℕ} → Toward held faults s₀ o₀ s₁ o₁ rest whole → rest ≡ [] → Puts held faults s₀ o₀ s₁ o₁ whole
 Toward-all t e = Puts-same (sym (append-nil t.written) ∙ ap (λ u. t.written ++ u) (sym e) ∙ t.all) t.puts
 
@@ -209,9 +213,11 @@ Toward-ends sections traces i section trace t e f h k p =
 pub lines-end : {A : Type 0} (f : A → List ℕ) (xs : List A) (i : ℕ) → length xs ≤ i → joined (map f (drop i xs)) ≡ []
 lines-end {A} f xs i h = ap (λ (ys : List A). joined (map f ys)) (drop_all i xs h)
 
+-- past the last element no marked line is left
 pub marked-end : {A : Type 0} (mark : Option ℕ) (f : A → List ℕ) (xs : List A) (i : ℕ) → length xs ≤ i → joined (marked mark (map f (drop i xs))) ≡ []
 marked-end {A} mark f xs i h = ap (λ (ys : List A). joined (marked mark (map f ys))) (drop_all i xs h)
 
+-- past the last element no line is left
 pub flat-end : {A : Type 0} (f : A → List (List ℕ)) (xs : List A) (i : ℕ) → length xs ≤ i → joined (flat_map f (drop i xs)) ≡ []
 flat-end {A} f xs i h = ap (λ (ys : List A). joined (flat_map f ys)) (drop_all i xs h)
 
@@ -219,6 +225,7 @@ no_ends : (sections : List Section) → ends_lines sections [] ≡ []
 no_ends [] = refl
 no_ends (section ∷ sections) = refl
 
+-- past the last section or trace no end is left
 pub ends_lines-end : (sections : List Section) (traces : List Trace) (i : ℕ) → min (length sections) (length traces) ≤ i → joined (ends_lines (drop i sections) (drop i traces)) ≡ []
 ends_lines-end sections traces i h = elim (cases_lt i (length sections)) [
   | inl k ↦ ap (λ (ts : List Trace). joined (ends_lines (drop i sections) ts)) (drop_all i traces (omega arith)) ∙ ap joined (no_ends (drop i sections))
@@ -252,10 +259,14 @@ Writes-from_Puts {held = held} {s₀ = s₀} {s₂ = s₂} {o₀ = o₀} {o₂ =
         o.2 ∙ ap (λ t. xs ++ t) (sym (append-nil o.0) ∙ ap (λ t. o.0 ++ t) (sym done) ∙ sym o.1)
     whole (Some xs) new kept (Err y) done g = g (Some xs) ([], refl, sym (append-nil xs))
 
+-- what an output keeps of a write
 pub ruleset out_laws = (Puts-failed, Puts-kept, Puts-written)
 
+-- what a send may leave
 pub ruleset send_laws = (Puts-none, Puts-failed, Puts-sent)
 
+-- writes one after another
 pub ruleset put_laws = (Puts-trans, Puts-none, Puts-behind)
 
+-- writes of a loop, element by element
 pub ruleset loop_laws = (Toward-none, Toward-line, Toward-lines, Toward-marked, Toward-entry, Toward-section, Toward-ends, Toward-all, Toward-last)

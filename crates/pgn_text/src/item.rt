@@ -5,8 +5,9 @@ ghost use Rattle.pgn_answers.specs.Refusals.{tag_text, warning_lines, warning_te
 ghost use Rattle.pgn_model.specs.Text.{delivery_line, item_lines, joined};
 ghost use Rattle.pgn_text.specs.Rendering.{HasPassed, Puts, ended, mark_of, marked, marked_items};
 
+use crate::span::Span;
 use crate::{LineCursor, Out};
-use pgn_base::{Delivery, Sink, Tag, Warning, Xid};
+use pgn_base::{Delivery, Sink, Tag, Warning};
 use pgn_language::ScriptLine;
 use pgn_model::Item;
 
@@ -23,7 +24,8 @@ fn text_of_warning(warning: Warning) -> &'static [u8]
 impl Out {
     // A command's tag, and the end of its line.
     fn tag<K: Sink>(&mut self, sink: &mut K, tag: &Tag)
-        ensures { Puts K.held K.faults sink.old self.old sink.new self.new (ended (tag_text tag.now)) }
+        ensures { Puts K.held K.faults sink.old self.old sink.new self.new
+            (ended (tag_text tag.now)) }
     {
         match tag {
             Tag::Begin => self.text(sink, b"BEGIN\n"),
@@ -41,7 +43,8 @@ impl Out {
 
     // The line of a command's tag.
     fn tag_line<K: Sink>(&mut self, sink: &mut K, mark: Option<u32>, tag: &Tag)
-        ensures { Puts K.held K.faults sink.old self.old sink.new self.new (ended (mark_of mark ++ tag_text tag.now)) }
+        ensures { Puts K.held K.faults sink.old self.old sink.new self.new
+            (ended (mark_of mark ++ tag_text tag.now)) }
     {
         self.mark(sink, mark);
         self.tag(sink, tag);
@@ -55,7 +58,8 @@ impl Out {
         tag: &Tag,
         warning: &Option<Warning>,
     )
-        ensures { Puts K.held K.faults sink.old self.old sink.new self.new (joined (marked mark (warning_lines warning.now ++ tag_text tag.now ∷ []))) }
+        ensures { Puts K.held K.faults sink.old self.old sink.new self.new
+            (joined (marked mark (warning_lines warning.now ++ tag_text tag.now ∷ []))) }
     {
         match warning {
             None => self.tag_line(sink, mark, tag),
@@ -67,17 +71,13 @@ impl Out {
     }
 
     // From where to where a read moved the mark, and what it received.
-    fn read<K: Sink>(
-        &mut self,
-        sink: &mut K,
-        mark: Option<u32>,
-        from: &Xid,
-        to: &Xid,
-        got: &[Delivery],
-    )
-        ensures { Puts K.held K.faults sink.old self.old sink.new self.new (joined (marked mark ((codes "+read " ++ decimal from.now ++ codes " " ++ decimal to.now) ∷ map delivery_line got.now))) }
+    fn read<K: Sink>(&mut self, sink: &mut K, mark: Option<u32>, span: &Span, got: &[Delivery])
+        ensures { Puts K.held K.faults sink.old self.old sink.new self.new
+            (joined (marked mark
+            ((codes "+read " ++ decimal span.now.from ++ codes " " ++ decimal span.now.to)
+            ∷ map delivery_line got.now))) }
     {
-        self.xids_line(sink, mark, b"+read ", from, to);
+        self.span_line(sink, mark, b"+read ", span);
         self.delivery_lines(sink, mark, got);
     }
 
@@ -91,12 +91,19 @@ impl Out {
         item: &Item,
     )
         requires { HasPassed lines.now cursor.old }
-        ensures puts { Puts K.held K.faults sink.old self.old sink.new self.new (joined (marked mark (item_lines lines.now item.now))) }
+        ensures puts { Puts K.held K.faults sink.old self.old sink.new self.new
+            (joined (marked mark (item_lines lines.now item.now))) }
         ensures passed { HasPassed lines.now cursor.new }
     {
         match item {
             Item::Line { line } => self.text_line(sink, mark, b"> ", cursor.find(lines, *line)),
-            Item::Enlist { base, point } => self.xids_line(sink, mark, b"+enlist ", base, point),
+            Item::Enlist { base, point } => {
+                let span = Span {
+                    from: *base,
+                    to: *point,
+                };
+                self.span_line(sink, mark, b"+enlist ", &span);
+            }
             Item::Publish { xid, .. } => self.xid_line(sink, mark, b"+publish ", xid),
             Item::QueueFull { full, .. } => self.full(sink, mark, full),
             Item::Leave => self.text_line(sink, mark, b"+leave", b""),
@@ -107,7 +114,13 @@ impl Out {
             Item::Raise { value } => self.xid_line(sink, mark, b"+signal ", value),
             Item::Found { value } => self.xid_line(sink, mark, b"+await ", value),
             Item::TimedOut { looks } => self.number_line(sink, mark, b"+timeout ", *looks),
-            Item::Read { from, to, got } => self.read(sink, mark, from, to, got.as_slice()),
+            Item::Read { from, to, got } => {
+                let span = Span {
+                    from: *from,
+                    to: *to,
+                };
+                self.read(sink, mark, &span, got.as_slice());
+            }
         }
     }
 
@@ -122,7 +135,8 @@ impl Out {
         items: &[Item],
     )
         requires { HasPassed lines.now cursor.old }
-        ensures puts { Puts K.held K.faults sink.old self.old sink.new self.new (joined (marked_items mark lines.now items.now)) }
+        ensures puts { Puts K.held K.faults sink.old self.old sink.new self.new
+            (joined (marked_items mark lines.now items.now)) }
         ensures passed { HasPassed lines.now cursor.new }
     {
         for item in items {

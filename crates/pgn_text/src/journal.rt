@@ -12,7 +12,8 @@ use pgn_journal::{Fate, Tx};
 impl Out {
     // How a transaction ended.
     fn fate<K: Sink>(&mut self, sink: &mut K, tx: &Tx)
-        ensures { Puts K.held K.faults sink.old self.old sink.new self.new (fate_text tx.now.fate tx.now.queued (length tx.now.notes)) }
+        ensures { Puts K.held K.faults sink.old self.old sink.new self.new
+            (fate_text tx.now.fate tx.now.queued (length tx.now.notes)) }
     {
         let count = tx.notes.as_slice().len() as u64;
         match tx.fate {
@@ -31,7 +32,8 @@ impl Out {
 
     // The number of a transaction and that of its session.
     fn numbers<K: Sink>(&mut self, sink: &mut K, x: u64, session: u64)
-        ensures { Puts K.held K.faults sink.old self.old sink.new self.new (codes "xid " ++ decimal x ++ codes " session " ++ decimal session) }
+        ensures { Puts K.held K.faults sink.old self.old sink.new self.new
+            (codes "xid " ++ decimal x ++ codes " session " ++ decimal session) }
     {
         self.text(sink, b"xid ");
         self.number(sink, x);
@@ -41,7 +43,8 @@ impl Out {
 
     // The lines of the transaction numbered x.
     fn entry<K: Sink>(&mut self, sink: &mut K, x: u64, tx: &Tx)
-        ensures { Puts K.held K.faults sink.old self.old sink.new self.new (joined (entry_lines x tx.now)) }
+        ensures { Puts K.held K.faults sink.old self.old sink.new self.new
+            (joined (entry_lines x tx.now)) }
     {
         self.numbers(sink, x, u64::from(tx.session.get()));
         self.fate(sink, tx);
@@ -52,7 +55,8 @@ impl Out {
     // The lines of the transactions.
     #[tactic(auto, using(crate::proofs::PutsLaws::loop_laws))]
     fn entries<K: Sink>(&mut self, sink: &mut K, journal: &[Tx])
-        ensures { Puts K.held K.faults sink.old self.old sink.new self.new (joined (entries_lines FIRST_XID journal.now)) }
+        ensures { Puts K.held K.faults sink.old self.old sink.new self.new
+            (joined (entries_lines FIRST_XID journal.now)) }
     {
         for (k, tx) in journal.iter().enumerate() {
             self.entry(sink, u64::from(FIRST_XID) + k as u64, tx);
@@ -61,7 +65,8 @@ impl Out {
 
     /// The lines of the journal.
     pub fn journal<K: Sink>(&mut self, sink: &mut K, journal: &[Tx])
-        ensures { Puts K.held K.faults sink.old self.old sink.new self.new (joined (journal_lines journal.now)) }
+        ensures { Puts K.held K.faults sink.old self.old sink.new self.new
+            (joined (journal_lines journal.now)) }
     {
         self.text(sink, b"journal ");
         self.number(sink, journal.len() as u64);

@@ -18,6 +18,7 @@ mod out;
 mod queue_line;
 mod refusal;
 mod section;
+mod span;
 mod text;
 
 pub use line_cursor::LineCursor;

@@ -13,7 +13,8 @@ impl Out {
     // A text with each quote twice, put in runs that end with a quote; the next run begins with it again.
     #[tactic(auto, using(crate::proofs::PutsLaws::loop_laws))]
     fn runs<K: Sink>(&mut self, sink: &mut K, quote: u8, text: &[u8])
-        ensures { Puts K.held K.faults sink.old self.old sink.new self.new (flat_map (doubled_byte quote) text.now) }
+        ensures { Puts K.held K.faults sink.old self.old sink.new self.new
+            (flat_map (doubled_byte quote) text.now) }
     {
         let mut start = 0;
         for i in 0..text.len() {
@@ -28,7 +29,8 @@ impl Out {
 
     // A text with each quote twice, if it has any.
     fn doubled<K: Sink>(&mut self, sink: &mut K, quote: u8, text: &[u8])
-        ensures { Puts K.held K.faults sink.old self.old sink.new self.new (flat_map (doubled_byte quote) text.now) }
+        ensures { Puts K.held K.faults sink.old self.old sink.new self.new
+            (flat_map (doubled_byte quote) text.now) }
     {
         match memchr(quote, text) {
             Some(_) => self.runs(sink, quote, text),
@@ -38,7 +40,8 @@ impl Out {
 
     // A notification behind its first quote, at the end of a line.
     fn note<K: Sink>(&mut self, sink: &mut K, note: &Note)
-        ensures { Puts K.held K.faults sink.old self.old sink.new self.new (ended (note_behind note.now)) }
+        ensures { Puts K.held K.faults sink.old self.old sink.new self.new
+            (ended (note_behind note.now)) }
     {
         self.doubled(sink, b'"', note.channel.as_bytes());
         self.text(sink, b"\", '");
@@ -48,7 +51,8 @@ impl Out {
 
     // The line of a notification of the journal.
     fn note_line<K: Sink>(&mut self, sink: &mut K, note: &Note)
-        ensures { Puts K.held K.faults sink.old self.old sink.new self.new (ended (note_line note.now)) }
+        ensures { Puts K.held K.faults sink.old self.old sink.new self.new
+            (ended (note_line note.now)) }
     {
         self.text(sink, b"  \"");
         self.note(sink, note);
@@ -57,7 +61,8 @@ impl Out {
     /// The lines of the notifications of a transaction.
     #[tactic(auto, using(crate::proofs::PutsLaws::loop_laws))]
     pub fn note_lines<K: Sink>(&mut self, sink: &mut K, notes: &[Note])
-        ensures { Puts K.held K.faults sink.old self.old sink.new self.new (joined (map note_line notes.now)) }
+        ensures { Puts K.held K.faults sink.old self.old sink.new self.new
+            (joined (map note_line notes.now)) }
     {
         for note in notes {
             self.note_line(sink, note);
@@ -66,7 +71,9 @@ impl Out {
 
     // Where a notification that was received comes from, and its first quote.
     fn sender<K: Sink>(&mut self, sink: &mut K, delivery: &Delivery)
-        ensures { Puts K.held K.faults sink.old self.old sink.new self.new (codes "  " ++ decimal delivery.now.xid ++ codes " " ++ decimal delivery.now.pid ++ codes " \"") }
+        ensures { Puts K.held K.faults sink.old self.old sink.new self.new
+            (codes "  " ++ decimal delivery.now.xid ++ codes " "
+            ++ decimal delivery.now.pid ++ codes " \"") }
     {
         self.text(sink, b"  ");
         self.number(sink, u64::from(delivery.xid.get()));
@@ -77,7 +84,8 @@ impl Out {
 
     // The line of a notification that was received.
     fn delivery_line<K: Sink>(&mut self, sink: &mut K, mark: Option<u32>, delivery: &Delivery)
-        ensures { Puts K.held K.faults sink.old self.old sink.new self.new (ended (mark_of mark ++ delivery_line delivery.now)) }
+        ensures { Puts K.held K.faults sink.old self.old sink.new self.new
+            (ended (mark_of mark ++ delivery_line delivery.now)) }
     {
         self.mark(sink, mark);
         self.sender(sink, delivery);
@@ -92,7 +100,8 @@ impl Out {
         mark: Option<u32>,
         got: &[Delivery],
     )
-        ensures { Puts K.held K.faults sink.old self.old sink.new self.new (joined (marked mark (map delivery_line got.now))) }
+        ensures { Puts K.held K.faults sink.old self.old sink.new self.new
+            (joined (marked mark (map delivery_line got.now))) }
     {
         for delivery in got {
             self.delivery_line(sink, mark, delivery);
@@ -101,7 +110,8 @@ impl Out {
 
     // The row of a channel.
     fn channel_line<K: Sink>(&mut self, sink: &mut K, mark: Option<u32>, name: &Name)
-        ensures { Puts K.held K.faults sink.old self.old sink.new self.new (ended (mark_of mark ++ channel_line name.now)) }
+        ensures { Puts K.held K.faults sink.old self.old sink.new self.new
+            (ended (mark_of mark ++ channel_line name.now)) }
     {
         self.mark(sink, mark);
         self.text(sink, b"  \"");
@@ -112,7 +122,8 @@ impl Out {
     // The rows of the channels that a session listens to.
     #[tactic(auto, using(crate::proofs::PutsLaws::loop_laws))]
     pub(crate) fn channel_lines<K: Sink>(&mut self, sink: &mut K, mark: Option<u32>, names: &[Name])
-        ensures { Puts K.held K.faults sink.old self.old sink.new self.new (joined (marked mark (map channel_line names.now))) }
+        ensures { Puts K.held K.faults sink.old self.old sink.new self.new
+            (joined (marked mark (map channel_line names.now))) }
     {
         for name in names {
             self.channel_line(sink, mark, name);

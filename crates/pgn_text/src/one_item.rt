@@ -38,7 +38,9 @@ pub fn write_item<K: Sink>(
     item: &Item,
     numbered: bool,
 ) -> Result<(), Failed>
-    ensures bytes { Writes (K.held sink.old) (K.held sink.new) result (joined (marked (if numbered then Some session else None) (item_lines (lines_of session scenario.now.sections) item.now))) }
+    ensures bytes { Writes (K.held sink.old) (K.held sink.new) result
+        (joined (marked (if numbered then Some session else None)
+        (item_lines (lines_of session scenario.now.sections) item.now))) }
     ensures cause { HasCause (K.faults sink.old) (K.faults sink.new) result }
 {
     let number = session.get();

@@ -1,6 +1,6 @@
 #![tactic(auto, using(crate::proofs::PutsLaws::put_laws))]
 
-ghost use Rattle.std.specs.Prelude.{◌∷◌, [], ◌++◌, codes, decimal};
+ghost use Rattle.std.specs.Prelude.{◌++◌, codes, decimal};
 ghost use Rattle.pgn_model.specs.Text.{full_line, holder_text, joined, usage_lines};
 ghost use Rattle.pgn_text.specs.Rendering.{Puts, ended, mark_of, marked};
 
@@ -10,7 +10,8 @@ use pgn_base::{Full, SessionNo, Sink, Usage};
 impl Out {
     // The session that holds the floor, and the end of the line.
     fn holder_end<K: Sink>(&mut self, sink: &mut K, holder: &Option<SessionNo>)
-        ensures { Puts K.held K.faults sink.old self.old sink.new self.new (ended (codes " holder " ++ holder_text holder.now)) }
+        ensures { Puts K.held K.faults sink.old self.old sink.new self.new
+            (ended (codes " holder " ++ holder_text holder.now)) }
     {
         match holder {
             None => self.text(sink, b" holder none\n"),
@@ -20,7 +21,9 @@ impl Out {
 
     // Which transaction met a full queue, how many of its notifications were queued, and the head's page.
     fn full_head<K: Sink>(&mut self, sink: &mut K, full: &Full)
-        ensures { Puts K.held K.faults sink.old self.old sink.new self.new (codes "+full " ++ decimal full.now.xid ++ codes " queued " ++ decimal full.now.queued ++ codes " head " ++ decimal full.now.head_page) }
+        ensures { Puts K.held K.faults sink.old self.old sink.new self.new
+            (codes "+full " ++ decimal full.now.xid ++ codes " queued " ++ decimal full.now.queued
+            ++ codes " head " ++ decimal full.now.head_page) }
     {
         self.labelled(sink, b"+full ", u64::from(full.xid.get()));
         self.labelled(sink, b" queued ", u64::from(full.queued));
@@ -29,7 +32,10 @@ impl Out {
 
     // The floor of a full queue, its page and who holds it, and the end of the line.
     fn full_floor<K: Sink>(&mut self, sink: &mut K, full: &Full)
-        ensures { Puts K.held K.faults sink.old self.old sink.new self.new (ended (codes " floor " ++ decimal full.now.floor_mark ++ codes " page " ++ decimal full.now.floor_page ++ codes " holder " ++ holder_text full.now.holder)) }
+        ensures { Puts K.held K.faults sink.old self.old sink.new self.new
+            (ended (codes " floor " ++ decimal full.now.floor_mark
+            ++ codes " page " ++ decimal full.now.floor_page
+            ++ codes " holder " ++ holder_text full.now.holder)) }
     {
         self.labelled(sink, b" floor ", u64::from(full.floor_mark.get()));
         self.labelled(sink, b" page ", full.floor_page);
@@ -38,7 +44,8 @@ impl Out {
 
     // Why a transaction met a full queue.
     pub(crate) fn full<K: Sink>(&mut self, sink: &mut K, mark: Option<u32>, full: &Full)
-        ensures { Puts K.held K.faults sink.old self.old sink.new self.new (ended (mark_of mark ++ full_line full.now)) }
+        ensures { Puts K.held K.faults sink.old self.old sink.new self.new
+            (ended (mark_of mark ++ full_line full.now)) }
     {
         self.mark(sink, mark);
         self.full_head(sink, full);
@@ -47,7 +54,10 @@ impl Out {
 
     // Where the queue's usage was measured.
     fn usage_place<K: Sink>(&mut self, sink: &mut K, mark: Option<u32>, usage: &Usage)
-        ensures { Puts K.held K.faults sink.old self.old sink.new self.new (ended (mark_of mark ++ (codes "+usage " ++ decimal usage.now.at ++ codes " floor " ++ decimal usage.now.floor_mark ++ codes " holder " ++ holder_text usage.now.holder))) }
+        ensures { Puts K.held K.faults sink.old self.old sink.new self.new
+            (ended (mark_of mark
+            ++ (codes "+usage " ++ decimal usage.now.at ++ codes " floor " ++ decimal usage.now.floor_mark
+            ++ codes " holder " ++ holder_text usage.now.holder))) }
     {
         self.mark(sink, mark);
         self.labelled(sink, b"+usage ", u64::from(usage.at.get()));
@@ -57,7 +67,9 @@ impl Out {
 
     // The pages that are in use, of those that there may be.
     fn usage_pages<K: Sink>(&mut self, sink: &mut K, mark: Option<u32>, usage: &Usage)
-        ensures { Puts K.held K.faults sink.old self.old sink.new self.new (ended (mark_of mark ++ (codes "  " ++ decimal usage.now.occupied ++ codes "/" ++ decimal usage.now.limit))) }
+        ensures { Puts K.held K.faults sink.old self.old sink.new self.new
+            (ended (mark_of mark
+            ++ (codes "  " ++ decimal usage.now.occupied ++ codes "/" ++ decimal usage.now.limit))) }
     {
         self.mark(sink, mark);
         self.labelled(sink, b"  ", usage.occupied);
@@ -66,7 +78,8 @@ impl Out {
 
     // The queue's usage.
     pub(crate) fn usage<K: Sink>(&mut self, sink: &mut K, mark: Option<u32>, usage: &Usage)
-        ensures { Puts K.held K.faults sink.old self.old sink.new self.new (joined (marked mark (usage_lines usage.now))) }
+        ensures { Puts K.held K.faults sink.old self.old sink.new self.new
+            (joined (marked mark (usage_lines usage.now))) }
     {
         self.usage_place(sink, mark, usage);
         self.usage_pages(sink, mark, usage);

@@ -46,7 +46,8 @@ fn text_of_needs(what: Needs) -> &'static [u8]
 impl Out {
     // What a refusal says after its code.
     fn message<K: Sink>(&mut self, sink: &mut K, refusal: &Refusal)
-        ensures { Puts K.held K.faults sink.old self.old sink.new self.new (refusal_message refusal.now) }
+        ensures { Puts K.held K.faults sink.old self.old sink.new self.new
+            (refusal_message refusal.now) }
     {
         match refusal {
             Refusal::Syntax { at } => self.labelled(sink, b"syntax error at byte ", u64::from(*at)),
@@ -67,7 +68,8 @@ impl Out {
 
     // A refusal's code and message.
     fn refusal<K: Sink>(&mut self, sink: &mut K, refusal: &Refusal)
-        ensures { Puts K.held K.faults sink.old self.old sink.new self.new (refusal_text refusal.now) }
+        ensures { Puts K.held K.faults sink.old self.old sink.new self.new
+            (refusal_text refusal.now) }
     {
         self.text(sink, code_of_refusal(refusal));
         self.text(sink, b": ");
@@ -81,7 +83,8 @@ impl Out {
         mark: Option<u32>,
         refusal: &Refusal,
     )
-        ensures { Puts K.held K.faults sink.old self.old sink.new self.new (ended (mark_of mark ++ (codes "ERROR: " ++ refusal_text refusal.now))) }
+        ensures { Puts K.held K.faults sink.old self.old sink.new self.new
+            (ended (mark_of mark ++ (codes "ERROR: " ++ refusal_text refusal.now))) }
     {
         self.mark(sink, mark);
         self.text(sink, b"ERROR: ");

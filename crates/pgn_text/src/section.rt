@@ -13,7 +13,9 @@ use pgn_model::Trace;
 impl Out {
     // A section's number, name and database.
     fn place<K: Sink>(&mut self, sink: &mut K, section: &Section)
-        ensures { Puts K.held K.faults sink.old self.old sink.new self.new (decimal section.now.no ++ codes " " ++ section.now.name ++ codes " db " ++ decimal section.now.db) }
+        ensures { Puts K.held K.faults sink.old self.old sink.new self.new
+            (decimal section.now.no ++ codes " " ++ section.now.name
+            ++ codes " db " ++ decimal section.now.db) }
     {
         self.number(sink, u64::from(section.no.get()));
         self.text(sink, b" ");
@@ -24,14 +26,16 @@ impl Out {
 
     // The process number of a session.
     fn pid<K: Sink>(&mut self, sink: &mut K, session: &SessionNo)
-        ensures { Puts K.held K.faults sink.old self.old sink.new self.new (decimal (PID_BASE + session.now)) }
+        ensures { Puts K.held K.faults sink.old self.old sink.new self.new
+            (decimal (PID_BASE + session.now)) }
     {
         self.number(sink, u64::from(PID_BASE + session.get()));
     }
 
     // A section's head.
     fn section_line<K: Sink>(&mut self, sink: &mut K, section: &Section)
-        ensures { Puts K.held K.faults sink.old self.old sink.new self.new (ended (section_line section.now)) }
+        ensures { Puts K.held K.faults sink.old self.old sink.new self.new
+            (ended (section_line section.now)) }
     {
         self.text(sink, b"session ");
         self.place(sink, section);
@@ -42,7 +46,8 @@ impl Out {
 
     // The last line of a trace.
     fn end<K: Sink>(&mut self, sink: &mut K, last: &Option<Xid>)
-        ensures { Puts K.held K.faults sink.old self.old sink.new self.new (ended (end_line last.now)) }
+        ensures { Puts K.held K.faults sink.old self.old sink.new self.new
+            (ended (end_line last.now)) }
     {
         match last {
             None => self.text(sink, b"end\n"),
@@ -56,7 +61,8 @@ impl Out {
 
     // The lines of a section with its trace.
     fn section<K: Sink>(&mut self, sink: &mut K, section: &Section, trace: &Trace)
-        ensures { Puts K.held K.faults sink.old self.old sink.new self.new (joined (trace_lines section.now trace.now)) }
+        ensures { Puts K.held K.faults sink.old self.old sink.new self.new
+            (joined (trace_lines section.now trace.now)) }
     {
         self.section_line(sink, section);
         let mut cursor = LineCursor::new();
@@ -73,7 +79,8 @@ impl Out {
     /// The lines of the sections with their traces.
     #[tactic(auto, using(crate::proofs::PutsLaws::loop_laws))]
     pub fn sections<K: Sink>(&mut self, sink: &mut K, sections: &[Section], traces: &[Trace])
-        ensures { Puts K.held K.faults sink.old self.old sink.new self.new (joined (traces_lines sections.now traces.now)) }
+        ensures { Puts K.held K.faults sink.old self.old sink.new self.new
+            (joined (traces_lines sections.now traces.now)) }
     {
         let count = sections.len().min(traces.len());
         for i in 0..count {
@@ -83,7 +90,8 @@ impl Out {
 
     // A section's head, and the end of its trace.
     fn section_end<K: Sink>(&mut self, sink: &mut K, section: &Section, trace: &Trace)
-        ensures { Puts K.held K.faults sink.old self.old sink.new self.new (ended (section_line section.now) ++ ended (end_line trace.now.last)) }
+        ensures { Puts K.held K.faults sink.old self.old sink.new self.new
+            (ended (section_line section.now) ++ ended (end_line trace.now.last)) }
     {
         self.section_line(sink, section);
         self.end(sink, &trace.last);
@@ -92,7 +100,8 @@ impl Out {
     /// The heads of the sections, each with the end of its trace.
     #[tactic(auto, using(crate::proofs::PutsLaws::loop_laws))]
     pub fn ends<K: Sink>(&mut self, sink: &mut K, sections: &[Section], traces: &[Trace])
-        ensures { Puts K.held K.faults sink.old self.old sink.new self.new (joined (ends_lines sections.now traces.now)) }
+        ensures { Puts K.held K.faults sink.old self.old sink.new self.new
+            (joined (ends_lines sections.now traces.now)) }
     {
         let count = sections.len().min(traces.len());
         for i in 0..count {

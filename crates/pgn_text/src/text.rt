@@ -16,7 +16,8 @@ pub fn render<K: Sink>(
     journal: &[Tx],
     traces: &[Trace],
 ) -> Result<(), Failed>
-    ensures bytes { Writes (K.held sink.old) (K.held sink.new) result (text scenario.now journal.now traces.now) }
+    ensures bytes { Writes (K.held sink.old) (K.held sink.new) result
+        (text scenario.now journal.now traces.now) }
     ensures cause { HasCause (K.faults sink.old) (K.faults sink.new) result }
 {
     let mut out = Out::new();

@@ -10,7 +10,7 @@ use Rattle.pgn_journal.specs.declared.tx.Tx.{Tx}
 use Rattle.pgn_journal.specs.QueueUse.{IsFloorFor, ShowsUsage}
 use Rattle.pgn_language.specs.declared.scenario.Section.{Section}
 use Rattle.pgn_model.specs.declared.item.Item.TheVariants as item
-use Rattle.pgn_model.specs.Walk.{Owed, State, Terms, IsLeaving, IsListing, IsMeasuring, after_item}
+use Rattle.pgn_model.specs.Walk.{Owed, State, Terms, IsLeaving, IsListing, IsMeasuring}
 use Rattle.pgn_model.specs.Walk as walk
 use Rattle.pgn_walk.specs.declared.standing.Standing.{Standing}
 use Rattle.pgn_ledger.specs.declared.to_show.Ending.{Ending}
@@ -37,6 +37,7 @@ not_leaving (show.Measuring f) no_one none is = is
 not_leaving (show.Raising f) no_one none is = is
 not_leaving (show.Awaiting f) no_one none is = is
 
+-- a session that does not owe to leave may not
 pub leave_never : (terms : Terms) (journal : List Tx) (old new : Standing) → ((f : Ending) → old.owed ≡ show.Leaving f → ⊥) → (old.owed ≡ show.Quitting → ⊥) → Moves terms journal old item.Leave false new
 leave_never terms journal old new no_one none = moves_not terms journal old new item.Leave (λ s h allowed. not_leaving old.owed no_one none (subst IsLeaving h.owed allowed))
 
@@ -56,12 +57,14 @@ unmarked section journal old s left owed h e = record {
   watch = record { over = h.watch.over; within = h.watch.within; next = tt };
 }
 
+-- a commit that owes it leaves, and owes its answer
 pub leave_on : (terms : Terms) (journal : List Tx) (old : Standing) (ending : Ending) → old.owed ≡ show.Leaving ending → Moves terms journal old item.Leave true (record old { owed = show.Answering ending; mark = None })
 leave_on terms journal old ending e =
     moves_on terms journal old (record old { owed = show.Answering ending; mark = None }) item.Leave (λ s h. subst IsLeaving (sym (h.owed ∙ ap owed_of e)) tt)
     (λ s h. subst (λ (owed : Owed). Holds terms.section journal (record old { owed = show.Answering ending; mark = None }) (walk.at_leave (record s { mark = None }) owed)) (sym (h.owed ∙ ap owed_of e))
     (unmarked terms.section journal old s (show.Answering ending) (walk.Answering (ending_of ending)) h refl))
 
+-- a quit that owes it leaves, and owes nothing more
 pub leave_quit : (terms : Terms) (journal : List Tx) (old : Standing) → old.owed ≡ show.Quitting → Moves terms journal old item.Leave true (record old { owed = show.Nothing; mark = None })
 leave_quit terms journal old e =
     moves_on terms journal old (record old { owed = show.Nothing; mark = None }) item.Leave (λ s h. subst IsLeaving (sym (h.owed ∙ ap owed_of e)) tt)
@@ -83,9 +86,11 @@ reply_is (show.Raising f) t w e = absurd (let no : ⊥ = cc in no)
 reply_is (show.Awaiting f) t w e = absurd (let no : ⊥ = cc in no)
 reply_is show.Quitting t w e = absurd (let no : ⊥ = cc in no)
 
+-- who owes no answer may not reply
 pub reply_never : (terms : Terms) (journal : List Tx) (old new : Standing) (t : Tag) (w : Option Warning) → ((f : Ending) → old.owed ≡ show.Answering f → ⊥) → Moves terms journal old (item.Reply t w) false new
 reply_never terms journal old new t w no_one = moves_not terms journal old new (item.Reply t w) (λ s h allowed. no_one (Replied t w) (reply_is old.owed t w (sym h.owed ∙ allowed)))
 
+-- a reply is allowed exactly where it is the one that is owed
 pub reply_by : (terms : Terms) (journal : List Tx) (old : Standing) (t : Tag) (w : Option Warning) (f : Ending) (b : Bool) → old.owed ≡ show.Answering f → (b ≡ true) ↔ (f ≡ Replied t w)
     → Moves terms journal old (item.Reply t w) b (record old { owed = show.Nothing })
 reply_by terms journal old t w f b e test =
@@ -111,6 +116,7 @@ reply_same f t u w v b e test = (
       test.1 (one, two),
 )
 
+-- a refusal that is owed is no reply
 pub reply_other : (f : Ending) (t : Tag) (w : Option Warning) (r : Refusal) → f ≡ Refused r → (false ≡ true) ↔ (f ≡ Replied t w)
 reply_other f t w r e = (λ no_one. absurd (false≢true no_one), λ same. absurd (let both : Refused r ≡ Replied t w = sym e ∙ same in let no : ⊥ = cc in no))
 
@@ -127,9 +133,11 @@ refuse_is (show.Raising f) r e = absurd (let no : ⊥ = cc in no)
 refuse_is (show.Awaiting f) r e = absurd (let no : ⊥ = cc in no)
 refuse_is show.Quitting r e = absurd (let no : ⊥ = cc in no)
 
+-- who owes no answer may not refuse
 pub refuse_never : (terms : Terms) (journal : List Tx) (old new : Standing) (r : Refusal) → ((f : Ending) → old.owed ≡ show.Answering f → ⊥) → Moves terms journal old (item.Refuse r) false new
 refuse_never terms journal old new r no_one = moves_not terms journal old new (item.Refuse r) (λ s h allowed. no_one (Refused r) (refuse_is old.owed r (sym h.owed ∙ allowed)))
 
+-- a refusal is allowed exactly where it is the one that is owed
 pub refuse_by : (terms : Terms) (journal : List Tx) (old : Standing) (r : Refusal) (f : Ending) (b : Bool) → old.owed ≡ show.Answering f → (b ≡ true) ↔ (f ≡ Refused r) → Moves terms journal old (item.Refuse r) b (record old { owed = show.Nothing })
 refuse_by terms journal old r f b e test =
     moves_by terms journal old (record old { owed = show.Nothing }) (item.Refuse r) b
@@ -153,6 +161,7 @@ refuse_same f r q b e test = (
       test.1 one,
 )
 
+-- a reply that is owed is no refusal
 pub refuse_other : (f : Ending) (r : Refusal) (t : Tag) (w : Option Warning) → f ≡ Replied t w → (false ≡ true) ↔ (f ≡ Refused r)
 refuse_other f r t w e = (λ no_one. absurd (false≢true no_one), λ same. absurd (let both : Replied t w ≡ Refused r = sym e ∙ same in let no : ⊥ = cc in no))
 
@@ -170,9 +179,11 @@ not_listing (show.Raising f) names no_one is = is
 not_listing (show.Awaiting f) names no_one is = is
 not_listing show.Quitting names no_one is = is
 
+-- who owes no channels may not show them
 pub rows_never : (terms : Terms) (journal : List Tx) (old new : Standing) (names : List (List ℕ)) → ((ns : List (List ℕ)) (f : Ending) → old.owed ≡ show.Listing ns f → ⊥) → Moves terms journal old (item.Channels names) false new
 rows_never terms journal old new names no_one = moves_not terms journal old new (item.Channels names) (λ s h allowed. not_listing old.owed names no_one (subst (IsListing names) h.owed allowed))
 
+-- channels are allowed exactly where they are those that are owed
 pub rows_by : (terms : Terms) (journal : List Tx) (old : Standing) (names due : List (List ℕ)) (ending : Ending) (b : Bool) → old.owed ≡ show.Listing due ending → (b ≡ true) ↔ (names ≡ due)
     → Moves terms journal old (item.Channels names) b (record old { owed = show.Answering ending })
 rows_by terms journal old names due ending b e f =
@@ -197,20 +208,25 @@ not_measuring (show.Raising f) no_one is = is
 not_measuring (show.Awaiting f) no_one is = is
 not_measuring show.Quitting no_one is = is
 
+-- who owes no usage may not show it
 pub measure_never : (terms : Terms) (journal : List Tx) (old new : Standing) (usage : Usage) → ((f : Ending) → old.owed ≡ show.Measuring f → ⊥) → Moves terms journal old (item.Used usage) false new
 measure_never terms journal old new usage no_one = moves_not terms journal old new (item.Used usage) (λ s h allowed. not_measuring old.owed no_one (subst IsMeasuring h.owed allowed.expected))
 
+-- nor one at a number before what the session was told of
 pub measure_early : (terms : Terms) (journal : List Tx) (old new : Standing) (usage : Usage) (b : Bool) → (b ≡ true) ↔ IsBehind old usage.at → b ≡ false → Moves terms journal old (item.Used usage) false new
 measure_early terms journal old new usage b test is = moves_not terms journal old new (item.Used usage) (λ s h allowed.
     false≢true (sym is ∙ test.1 (omega (arith, h.told, allowed.after_told), subst (λ (m : Option ℕ). IfSome m (λ mark. mark ≤ usage.at)) h.mark allowed.after_mark)))
 
+-- nor one that the journal does not bear out
 pub measure_other : (terms : Terms) (journal : List Tx) (old new : Standing) (usage : Usage) (b : Bool) → (b ≡ true) ↔ ShowsUsage terms.settings.format terms.settings.limit journal usage → b ≡ false → Moves terms journal old (item.Used usage) false new
 measure_other terms journal old new usage b test is = moves_not terms journal old new (item.Used usage) (λ s h allowed. false≢true (sym is ∙ test.1 allowed.shown))
 
+-- nor one with a floor that is none for the session
 pub measure_floor : (terms : Terms) (journal : List Tx) (old new : Standing) (usage : Usage) (b : Bool) → (b ≡ true) ↔ IsFloorFor terms.section.no old.mark usage.floor_mark usage.holder → b ≡ false → Moves terms journal old (item.Used usage) false new
 measure_floor terms journal old new usage b test is = moves_not terms journal old new (item.Used usage) (λ s h allowed.
     false≢true (sym is ∙ test.1 (subst (λ (m : Option ℕ). IsFloorFor terms.section.no m usage.floor_mark usage.holder) h.mark allowed.floor)))
 
+-- a usage that is owed and passes these tests is allowed
 pub measure_on : (terms : Terms) (journal : List Tx) (old : Standing) (usage : Usage) (b d f : Bool) (ending : Ending) → (b ≡ true) ↔ IsBehind old usage.at → b ≡ true
     → (d ≡ true) ↔ ShowsUsage terms.settings.format terms.settings.limit journal usage → d ≡ true → (f ≡ true) ↔ IsFloorFor terms.section.no old.mark usage.floor_mark usage.holder → f ≡ true
     → old.owed ≡ show.Measuring ending → Moves terms journal old (item.Used usage) true (record old { owed = show.Answering ending })

@@ -13,7 +13,7 @@ use Rattle.pgn_journal.specs.declared.tx.Tx.{Tx}
 use Rattle.pgn_due.specs.Next.{IsWatch}
 use Rattle.pgn_due.specs.declared.watch.Watch.{Watch}
 use Rattle.pgn_language.specs.declared.scenario.Section.{Section}
-use Rattle.pgn_model.specs.Walk.{Owed, State, is_empty_set, leaving_or_answering, queueing_or_settled, settled}
+use Rattle.pgn_model.specs.Walk.{State, is_empty_set, leaving_or_answering, queueing_or_settled, settled}
 use Rattle.pgn_model.specs.Walk as walk
 use Rattle.pgn_walk.specs.declared.standing.Standing.{Standing}
 use Rattle.pgn_ledger.specs.declared.to_show.Ending.{Ending}
@@ -26,11 +26,13 @@ use Rattle.pgn_walk.proofs.StandingLaws.{holds_owed}
 tests_same : (section : Section) (journal : List Tx) (at : Standing) (s : State) → Holds section journal at s → (is_some s.mark && is_empty_set s.set) ≡ (is_some at.mark && is_empty_set at.set.channels)
 tests_same section journal at s h = ap (λ (m : Option ℕ). is_some m && is_empty_set s.set) h.mark ∙ ap (λ (set : List (List ℕ)). is_some at.mark && is_empty_set set) h.set
 
+-- a listener without channels owes to leave, and then its answer
 pub leaves : (at : Standing) (ending : Ending) → (is_some at.mark && is_empty_set at.set.channels) ≡ true → Leads at (record at { owed = show.Leaving ending }) (λ s. leaving_or_answering s (ending_of ending))
 leaves at ending test section journal s h =
     subst (λ (b : Bool). Holds section journal (record at { owed = show.Leaving ending }) (if b then record s { owed = walk.Leaving (ending_of ending) } else record s { owed = walk.Answering (ending_of ending) }))
     (sym (tests_same section journal at s h ∙ test)) (holds_owed section journal at s (show.Leaving ending) (walk.Leaving (ending_of ending)) h refl)
 
+-- each other session owes its answer alone
 pub answers : (at : Standing) (ending : Ending) → (is_some at.mark && is_empty_set at.set.channels) ≡ false → Leads at (record at { owed = show.Answering ending }) (λ s. leaving_or_answering s (ending_of ending))
 answers at ending test section journal s h =
     subst (λ (b : Bool). Holds section journal (record at { owed = show.Answering ending }) (if b then record s { owed = walk.Leaving (ending_of ending) } else record s { owed = walk.Answering (ending_of ending) }))
@@ -53,6 +55,7 @@ acts at set watch actions e follows section journal s h = record {
   watch = subst (λ (channels : List (List ℕ)). IsWatch journal section.db channels at.mark watch) (sym e) (follows journal section.db at.set.channels h.watch);
 }
 
+-- no actions leave the set as it is
 pub acts_not : (at : Standing) (actions : List Action) → (length actions == 0) ≡ true → Leads at at (λ s. record s { set = applied s.set actions })
 acts_not at actions none section journal s h =
     let e : actions ≡ [] = nil_from_length actions ((Decides-eqb (length actions) 0).0 none) in
@@ -63,6 +66,7 @@ pub queues : (at : Standing) (actions : List Action) (notes : List Note) (ending
 queues at actions [] ending some section journal s h = absurd (false≢true (sym some ∙ (Decides-eqb 0 0).1 refl))
 queues at actions (note ∷ notes) ending some section journal s h = holds_owed section journal at s (show.Queueing actions (note ∷ notes) ending) (walk.Queueing actions (note ∷ notes) (ending_of ending)) h refl
 
+-- a commit without notifications is settled at once
 pub settles : (at new : Standing) (actions : List Action) (notes : List Note) (ending : Ending) → (length notes == 0) ≡ true → Leads at new (λ s. settled s actions (ending_of ending)) → Leads at new (λ s. queueing_or_settled s actions notes (ending_of ending))
 settles at new actions [] ending none h = h
 settles at new actions (note ∷ notes) ending none h = absurd (let some : length (note ∷ notes) ≡ 0 = (Decides-eqb (length (note ∷ notes)) 0).0 none in omega (arith, some))
@@ -74,6 +78,7 @@ enlists at actions notes ending test section journal s h =
     subst (λ (b : Bool). Holds section journal (record at { owed = show.Enlisting actions notes ending }) (if b then record s { owed = walk.Enlisting actions notes (ending_of ending) } else queueing_or_settled s actions notes (ending_of ending)))
     (sym (ap (λ (m : Option ℕ). list_any is_listen actions && is_none m) h.mark ∙ test)) (holds_owed section journal at s (show.Enlisting actions notes ending) (walk.Enlisting actions notes (ending_of ending)) h refl)
 
+-- a commit that makes no listener goes on to its notifications
 pub goes_on : (at new : Standing) (actions : List Action) (notes : List Note) (ending : Ending) → (list_any is_listen actions && is_none at.mark) ≡ false
     → Leads at new (λ s. queueing_or_settled s actions notes (ending_of ending)) → Leads at new (λ s. commits s actions notes (ending_of ending))
 goes_on at new actions notes ending test next section journal s h =

@@ -72,6 +72,7 @@ some_kept : (known : Option ℕ) (value : ℕ) → (IfSome known (λ n. n ≤ va
 some_kept None value h e = h tt
 some_kept (Some n) value h e = let no : ⊥ = cc in no
 
+-- a number that is put for a flag is known, where none known for it is greater
 pub knows_put : (old new : Standing) (flag value : ℕ) → new ≡ record old { known = new.known } → ((q : ℕ) → known_at new.known.entries q ≡ cond (nat_eq flag q) (Some value) (known_at old.known.entries q))
     → IfSome (known_at old.known.entries flag) (λ n. n ≤ value) → Knows old flag value new
 knows_put old new flag value same puts few = record {
@@ -100,6 +101,7 @@ knows_put old new flag value same puts few = record {
   ];
 }
 
+-- where a greater one is known, it stays
 pub knows_kept : (old : Standing) (flag value : ℕ) → (IfSome (known_at old.known.entries flag) (λ n. n ≤ value) → ⊥) → Knows old flag value old
 knows_kept old flag value much = record {
   same = refl;
@@ -121,12 +123,15 @@ not_raising (show.Measuring f) no_one is = is
 not_raising (show.Awaiting f) no_one is = is
 not_raising show.Quitting no_one is = is
 
+-- who owes no flag may not raise one
 pub raise_never : (terms : Terms) (journal : List Tx) (old new : Standing) (value : ℕ) → ((f : ℕ) → old.owed ≡ show.Raising f → ⊥) → Moves terms journal old (item.Raise value) false new
 raise_never terms journal old new value no_one = moves_not terms journal old new (item.Raise value) (λ s h allowed. not_raising old.owed no_one (subst IsRaising h.owed allowed.expected))
 
+-- nor with another number than what it was told of
 pub raise_other : (terms : Terms) (journal : List Tx) (old new : Standing) (value : ℕ) → value ≢ old.told → Moves terms journal old (item.Raise value) false new
 raise_other terms journal old new value other = moves_not terms journal old new (item.Raise value) (λ s h allowed. other (allowed.told ∙ h.told))
 
+-- a flag that is owed is raised with that number, and it is known
 pub raise_on : (terms : Terms) (journal : List Tx) (old mid : Standing) (flag value : ℕ) → old.owed ≡ show.Raising flag → value ≡ old.told → Knows old flag value mid
     → Moves terms journal old (item.Raise value) true (record mid { owed = show.Nothing })
 raise_on terms journal old mid flag value e told k =
@@ -153,6 +158,7 @@ turned : (t : Bool) → not t ≡ false → t ≡ true
 turned true h = refl
 turned false h = absurd (false≢true (sym h))
 
+-- the test finds two numbers the same
 pub told_is : (value told : ℕ) (b : Bool) → b ≡ not (nat_eq value told) → b ≡ false → value ≡ told
 told_is value told b test is = (Decides-eqb value told).0 (turned (nat_eq value told) (sym test ∙ is))
 
@@ -170,17 +176,20 @@ not_awaiting (show.Measuring f) P no_one is = is
 not_awaiting (show.Raising f) P no_one is = is
 not_awaiting show.Quitting P no_one is = is
 
+-- who awaits no flag may not find one
 pub find_never : (terms : Terms) (journal : List Tx) (old new : Standing) (value : ℕ) → ((f : ℕ) → old.owed ≡ show.Awaiting f → ⊥) → Moves terms journal old (item.Found value) false new
 find_never terms journal old new value no_one = moves_not terms journal old new (item.Found value) (λ s h allowed.
     let P : ℕ → Type 0 = λ flag. IsGreatest s.raised flag value × IsGreatest s.found flag value in
     not_awaiting old.owed P no_one (subst (λ (owed : Owed). IsAwaiting owed P) h.owed allowed))
 
+-- nor with a smaller number than one that is known
 pub find_small : (terms : Terms) (journal : List Tx) (old new : Standing) (flag value : ℕ) (b : Bool) → old.owed ≡ show.Awaiting flag → (b ≡ true) ↔ IfSome (known_at old.known.entries flag) (λ most. most ≤ value) → b ≡ false
     → Moves terms journal old (item.Found value) false new
 find_small terms journal old new flag value b e test is = moves_not terms journal old new (item.Found value) (λ s h allowed.
     let P : ℕ → Type 0 = λ f. IsGreatest s.raised f value × IsGreatest s.found f value in
     false≢true (sym is ∙ test.1 ((h.flags.greatest flag value).0 (subst (λ (owed : Owed). IsAwaiting owed P) (h.owed ∙ ap owed_of e) allowed))))
 
+-- an awaited flag is found with each other number, and the session is told of it
 pub find_on : (terms : Terms) (journal : List Tx) (old mid : Standing) (flag value : ℕ) (b : Bool) → old.owed ≡ show.Awaiting flag → (b ≡ true) ↔ IfSome (known_at old.known.entries flag) (λ most. most ≤ value) → b ≡ true → Knows old flag value mid
     → Moves terms journal old (item.Found value) true (record mid { told = max mid.told value; owed = show.Nothing })
 find_on terms journal old mid flag value b e test is k =
@@ -205,19 +214,23 @@ find_on terms journal old mid flag value b e test is k =
     subst (λ (owed : Owed). Holds terms.section journal (record mid { told = max mid.told value; owed = show.Nothing }) (walk.at_found value s owed)) (sym (h.owed ∙ ap owed_of e))
     (subst (λ (m : Standing). Holds terms.section journal (record m { told = max m.told value; owed = show.Nothing }) after) (sym k.same) stands))
 
+-- who awaits no flag may not give up
 pub time_never : (terms : Terms) (journal : List Tx) (old new : Standing) (looks : ℕ) → ((f : ℕ) → old.owed ≡ show.Awaiting f → ⊥) → Moves terms journal old (item.TimedOut looks) false new
 time_never terms journal old new looks no_one = moves_not terms journal old new (item.TimedOut looks) (λ s h allowed.
     let P : ℕ → Type 0 = λ flag. IsUnknown s.raised flag × IsUnknown s.found flag in
     not_awaiting old.owed P no_one (subst (λ (owed : Owed). IsAwaiting owed P) h.owed allowed.awaited))
 
+-- nor after other looks than its patience
 pub time_other : (terms : Terms) (journal : List Tx) (old new : Standing) (looks : ℕ) → looks ≢ terms.settings.patience → Moves terms journal old (item.TimedOut looks) false new
 time_other terms journal old new looks other = moves_not terms journal old new (item.TimedOut looks) (λ s h allowed. other allowed.patient)
 
+-- nor on a flag that is known
 pub time_known : (terms : Terms) (journal : List Tx) (old new : Standing) (flag looks : ℕ) (b : Bool) → old.owed ≡ show.Awaiting flag → (b ≡ false) ↔ (known_at old.known.entries flag ≡ None) → b ≡ true → Moves terms journal old (item.TimedOut looks) false new
 time_known terms journal old new flag looks b e test is = moves_not terms journal old new (item.TimedOut looks) (λ s h allowed.
     let P : ℕ → Type 0 = λ f. IsUnknown s.raised f × IsUnknown s.found f in
     false≢true (sym (test.1 ((h.flags.unknown flag).0 (subst (λ (owed : Owed). IsAwaiting owed P) (h.owed ∙ ap owed_of e) allowed.awaited))) ∙ is))
 
+-- an awaited flag that is not known is given up after these looks
 pub time_on : (terms : Terms) (journal : List Tx) (old : Standing) (flag looks : ℕ) (b : Bool) → old.owed ≡ show.Awaiting flag → looks ≡ terms.settings.patience → (b ≡ false) ↔ (known_at old.known.entries flag ≡ None) → b ≡ false
     → Moves terms journal old (item.TimedOut looks) true (record old { owed = show.Nothing })
 time_on terms journal old flag looks b e patient test is =

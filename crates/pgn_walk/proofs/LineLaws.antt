@@ -22,7 +22,7 @@ use Rattle.pgn_due.specs.declared.watch.Watch.{Watch}
 use Rattle.pgn_language.specs.declared.scenario.Section.{Section}
 use Rattle.pgn_language.specs.declared.scenario.Act.{Act}
 use Rattle.pgn_language.specs.declared.scenario.Act.TheVariants.{Run, Signal, Await, Quit}
-use Rattle.pgn_model.specs.Walk.{Owed, State, Nothing, owing, quitting, at_act, at_outcome}
+use Rattle.pgn_model.specs.Walk.{State, quitting, at_act, at_outcome}
 use Rattle.pgn_model.specs.Walk as walk
 use Rattle.pgn_pending.specs.Kept.{StandsFor}
 use Rattle.pgn_block.specs.Views.{BlockView, idle_view}
@@ -59,6 +59,7 @@ quit_holds section journal at block set watch s is none ends h = record {
   watch = subst (λ (channels : List (List ℕ)). IsWatch journal section.db channels at.mark watch) (sym none) (ends journal section.db at.set.channels at.mark h.watch);
 }
 
+-- a listener that quits owes to leave
 pub quits_listening : (at : Standing) (block : BlockView) (set : Listening) (watch : Watch) → block ≡ idle_view → set.channels ≡ [] → Ends at.watch watch → is_some at.mark ≡ true
     → BeginsFrom at (record at { block = block; set = set; watch = watch; owed = show.Quitting }) quitting
 quits_listening at block set watch is none ends test section journal s h e =
@@ -67,6 +68,7 @@ quits_listening at block set watch is none ends test section journal s h e =
     subst (λ (b : Bool). Holds section journal (record at { block = block; set = set; watch = watch; owed = show.Quitting }) (if b then record ended { owed = walk.Quitting } else ended))
     (sym (ap (λ (m : Option ℕ). is_some m) h.mark ∙ test)) (holds_owed section journal (record at { block = block; set = set; watch = watch }) ended show.Quitting walk.Quitting stands refl)
 
+-- who is no listener quits and owes nothing
 pub quits_idle : (at : Standing) (block : BlockView) (set : Listening) (watch : Watch) → block ≡ idle_view → set.channels ≡ [] → Ends at.watch watch → is_some at.mark ≡ false
     → BeginsFrom at (record at { block = block; set = set; watch = watch }) quitting
 quits_idle at block set watch is none ends test section journal s h e =
@@ -76,6 +78,7 @@ quits_idle at block set watch is none ends test section journal s h e =
 
 -- What the block gives.
 
+-- a command without an answer leaves the walk where it stands
 pub gives_nothing : (at : Standing) (names : List (List ℕ)) (count : ℕ) → IsGivenBy at effect.Nothing names count at
 gives_nothing at names count section journal s changes Silent h e is rows = h
 gives_nothing at names count section journal s changes (Commits t) h e is rows = absurd (let no : ⊥ = cc in no)
@@ -84,6 +87,7 @@ gives_nothing at names count section journal s changes (Refuses r n) h e is rows
 gives_nothing at names count section journal s changes (GivesChannels c) h e is rows = absurd (let no : ⊥ = cc in no)
 gives_nothing at names count section journal s changes GivesUsage h e is rows = absurd (let no : ⊥ = cc in no)
 
+-- a command that is answered by a tag owes it
 pub gives_reply : (at : Standing) (t : Tag) (w : Option Warning) (names : List (List ℕ)) (count : ℕ) → IsGivenBy at (effect.Reply t w) names count (record at { owed = show.Answering (Replied t w) })
 gives_reply at t w names count section journal s changes (Replies u v n) h e is rows =
     let one : t ≡ u = cc in
@@ -95,6 +99,7 @@ gives_reply at t w names count section journal s changes (Refuses r n) h e is ro
 gives_reply at t w names count section journal s changes (GivesChannels c) h e is rows = absurd (let no : ⊥ = cc in no)
 gives_reply at t w names count section journal s changes GivesUsage h e is rows = absurd (let no : ⊥ = cc in no)
 
+-- a command that is refused owes the refusal
 pub gives_refusal : (at : Standing) (r : Refusal) (names : List (List ℕ)) (count : ℕ) → IsGivenBy at (effect.Refuse r) names count (record at { owed = show.Answering (Refused r) })
 gives_refusal at r names count section journal s changes (Refuses u n) h e is rows =
     let one : r ≡ u = cc in
@@ -105,6 +110,7 @@ gives_refusal at r names count section journal s changes (Replies t w n) h e is 
 gives_refusal at r names count section journal s changes (GivesChannels c) h e is rows = absurd (let no : ⊥ = cc in no)
 gives_refusal at r names count section journal s changes GivesUsage h e is rows = absurd (let no : ⊥ = cc in no)
 
+-- a command that asks for the channels owes them, and then their number
 pub gives_rows : (at : Standing) (names : List (List ℕ)) (count : ℕ) → IsGivenBy at (effect.Query ListeningChannels) names count (record at { owed = show.Listing names (Replied (tag.Select count) None) })
 gives_rows at names count section journal s changes (GivesChannels c) h e is rows =
     holds_owed section journal at s (show.Listing names (Replied (tag.Select count) None)) (walk.Listing c (walk.Replied (tag.Select (length c)) None)) h
@@ -115,6 +121,7 @@ gives_rows at names count section journal s changes (Replies t w n) h e is rows 
 gives_rows at names count section journal s changes (Refuses r n) h e is rows = absurd (let no : ⊥ = cc in no)
 gives_rows at names count section journal s changes GivesUsage h e is rows = absurd (let no : ⊥ = cc in no)
 
+-- a command that asks for the usage owes it, and then one row
 pub gives_usage : (at : Standing) (names : List (List ℕ)) (count : ℕ) → IsGivenBy at (effect.Query QueueUsage) names count (record at { owed = show.Measuring (Replied (tag.Select 1) None) })
 gives_usage at names count section journal s changes GivesUsage h e is rows = holds_owed section journal at s (show.Measuring (Replied (tag.Select 1) None)) (walk.Measuring (walk.Replied (tag.Select 1) None)) h refl
 gives_usage at names count section journal s changes Silent h e is rows = absurd (let no : ⊥ = cc in no)
@@ -123,6 +130,7 @@ gives_usage at names count section journal s changes (Replies t w n) h e is rows
 gives_usage at names count section journal s changes (Refuses r n) h e is rows = absurd (let no : ⊥ = cc in no)
 gives_usage at names count section journal s changes (GivesChannels c) h e is rows = absurd (let no : ⊥ = cc in no)
 
+-- a command that commits leads to what its commit does
 pub gives_commit : (at new : Standing) (actions : List Action) (notes : List Note) (t : Tag) (names : List (List ℕ)) (count : ℕ) → Leads at new (λ s. commits s actions notes (ending_of (Replied t None)))
     → IsGivenBy at (effect.Commit actions notes t) names count new
 gives_commit at new actions notes t names count on section journal s changes (Commits u) h e is rows =
@@ -198,16 +206,20 @@ runs at new c block gave names count rows long gives leads leaves on section jou
 
 -- What a line does.
 
+-- a line with a command begins as the command's answer says
 pub begins_run : (at new : Standing) (act : Act) (c : Command) → act ≡ Run c → BeginsFrom at new (λ s. at_outcome s c (answer s.block (live_names s.changes) s.set c)) → BeginsFrom at new (λ s. at_act s act)
 begins_run at new act c e h section journal s holds none = subst (λ (a : Act). Holds section journal new (at_act s a)) (sym e) (h section journal s holds none)
 
+-- a line that raises a flag owes it
 pub begins_signal : (at : Standing) (act : Act) (flag : ℕ) → act ≡ Signal flag → BeginsFrom at (record at { owed = show.Raising flag }) (λ s. at_act s act)
 begins_signal at act flag e section journal s holds none =
     subst (λ (a : Act). Holds section journal (record at { owed = show.Raising flag }) (at_act s a)) (sym e) (holds_owed section journal at s (show.Raising flag) (walk.Raising flag) holds refl)
 
+-- a line that awaits a flag owes to find it
 pub begins_await : (at : Standing) (act : Act) (flag : ℕ) → act ≡ Await flag → BeginsFrom at (record at { owed = show.Awaiting flag }) (λ s. at_act s act)
 begins_await at act flag e section journal s holds none =
     subst (λ (a : Act). Holds section journal (record at { owed = show.Awaiting flag }) (at_act s a)) (sym e) (holds_owed section journal at s (show.Awaiting flag) (walk.Awaiting flag) holds refl)
 
+-- a line that quits begins as a quit does
 pub begins_quit : (at new : Standing) (act : Act) → act ≡ Quit → BeginsFrom at new quitting → BeginsFrom at new (λ s. at_act s act)
 begins_quit at new act e h section journal s holds none = subst (λ (a : Act). Holds section journal new (at_act s a)) (sym e) (h section journal s holds none)

@@ -1,5 +1,5 @@
 -- A read, where a session stands.
-use Rattle.std.proofs.Common.{◌≡◌, ◌↔◌, ◌⊎◌, ℕ, ◌<◌, ◌≤◌, max, Bool, true, false, ◌||◌, nat_le, List, [], length, drop, Option, Some, sym, ap, ◌∙◌, refl, subst, inl, inr, arith}
+use Rattle.std.proofs.Common.{◌≡◌, ◌↔◌, ◌⊎◌, ℕ, ◌≤◌, max, Bool, true, false, ◌||◌, nat_le, List, [], length, drop, Option, Some, sym, ap, ◌∙◌, refl, subst, inl, inr, arith}
 use Rattle.std.proofs.lemmas.Bool.{false≢true}
 use Rattle.std.proofs.lemmas.Bool.Decides.{leb_tells}
 use Rattle.std.proofs.lemmas.List.{drop_all, length-drop}
@@ -7,7 +7,6 @@ use Rattle.pgn_base.specs.declared.note.Delivery.{Delivery}
 use Rattle.pgn_answers.specs.declared.block_state.BlockState.{BlockState}
 use Rattle.pgn_answers.specs.declared.block_state.BlockState.TheVariants.{Idle, InBlock, Failed}
 use Rattle.pgn_journal.specs.declared.tx.Tx.{Tx}
-use Rattle.pgn_journal.specs.Journal.{next_xid}
 use Rattle.pgn_journal.specs.Due.{due}
 use Rattle.pgn_due.specs.Next.{IsWatch}
 use Rattle.pgn_due.specs.declared.watch.Watch.{Watch}
@@ -19,7 +18,7 @@ use Rattle.pgn_ledger.specs.declared.to_show.ToShow.{ToShow}
 use Rattle.pgn_ledger.specs.declared.to_show.ToShow.TheVariants as show
 use Rattle.pgn_ledger.specs.ToShow.{owed_of}
 use Rattle.pgn_walk.specs.Standing.{Holds}
-use Rattle.pgn_walk.specs.Steps.{Moves, is_idle, may_read, may_read_at}
+use Rattle.pgn_walk.specs.Steps.{Moves, Reaches, is_idle, may_read, may_read_at}
 use Rattle.pgn_walk.proofs.ItemLaws.{moves_not, moves_on, one_mark}
 
 -- Whether the session may read.
@@ -33,6 +32,7 @@ idle_is Failed h = absurd (false≢true h)
 pub over_is : (lines : List ScriptLine) (next : ℕ) → length lines ≤ next → drop next lines ≡ []
 over_is lines next h = drop_all next lines h
 
+-- a script with no lines left is at its end
 pub is_over : (lines : List ScriptLine) (next : ℕ) → drop next lines ≡ [] → length lines ≤ next
 is_over lines next h = omega (arith, length-drop next lines, ap length h)
 
@@ -44,12 +44,14 @@ or_true : (a b : Bool) → b ≡ true → (a || b) ≡ true
 or_true true b h = refl
 or_true false b h = h
 
+-- numbers that the test finds in order are so
 pub le_is : (a b : ℕ) → nat_le a b ≡ true → a ≤ b
 le_is a b h = elim (leb_tells a b) [
   | inl t ↦ t.1
   | inr t ↦ absurd (false≢true (sym t.0 ∙ h))
 ]
 
+-- the test finds numbers in order that are so
 pub is_le : (a b : ℕ) → a ≤ b → nat_le a b ≡ true
 is_le a b h = elim (leb_tells a b) [
   | inl t ↦ t.0
@@ -86,13 +88,12 @@ at_may s show.Quitting block lines next b r h = absurd h
 
 -- A read.
 
+-- no read comes where none may
 pub read_never : (terms : Terms) (journal : List Tx) (old new : Standing) (from to : ℕ) (got : List Delivery) (b : Bool) → b ≡ may_read old terms.section → b ≡ false → Moves terms journal old (item.Read from to got) false new
 read_never terms journal old new from to got b test is = moves_not terms journal old new (item.Read from to got) (λ s h allowed.
     false≢true (sym is ∙ test ∙ at_may s old.owed old.block.state terms.section.lines old.next h.block h.rest (subst (MayRead s) h.owed allowed.in_turn)))
 
-abbrev pub Reaches : Standing → List Tx → ℕ → ℕ → Type 0
-Reaches at journal from to = (at.mark ≡ Some from) × (from < to) × (at.told ≤ to) × (to ≤ next_xid journal)
-
+-- nor one from elsewhere than the mark, or to where it may not lead
 pub read_far : (terms : Terms) (journal : List Tx) (old new : Standing) (from to : ℕ) (got : List Delivery) (b : Bool) → (b ≡ true) ↔ Reaches old journal from to → b ≡ false → Moves terms journal old (item.Read from to got) false new
 read_far terms journal old new from to got b test is = moves_not terms journal old new (item.Read from to got) (λ s h allowed.
     false≢true (sym is ∙ test.1 (sym h.mark ∙ allowed.from_mark, allowed.forward, omega (arith, h.told, allowed.after_told), allowed.in_journal)))
@@ -111,11 +112,13 @@ takes_there terms journal old watch from to got d f s first reach far takes h =
     let told = takes journal terms.section.db from old.set.channels first (omega (arith, t.1)) here in
     (subst (λ (channels : List (List ℕ)). (f ≡ true) ↔ (got ≡ due journal from to terms.section.db channels)) (sym h.set) told.0, told.1)
 
+-- nor one that gives anything but what is due
 pub read_other : (terms : Terms) (journal : List Tx) (old new : Standing) (watch : Watch) (from to : ℕ) (got : List Delivery) (d f : Bool) → 3 ≤ from → (d ≡ true) ↔ Reaches old journal from to → d ≡ true → Takes to got old.watch f watch
     → f ≡ false → Moves terms journal old (item.Read from to got) false new
 read_other terms journal old new watch from to got d f first reach far takes off = moves_not terms journal old new (item.Read from to got) (λ s h allowed.
     false≢true (sym off ∙ (takes_there terms journal old watch from to got d f s first reach far takes h).0.1 allowed.received))
 
+-- a read that passes these tests moves the mark to its end
 pub read_on : (terms : Terms) (journal : List Tx) (old : Standing) (watch : Watch) (from to : ℕ) (got : List Delivery) (b d f : Bool) → 3 ≤ from → b ≡ may_read old terms.section → b ≡ true → (d ≡ true) ↔ Reaches old journal from to → d ≡ true
     → Takes to got old.watch f watch → f ≡ true → Moves terms journal old (item.Read from to got) true (record old { mark = Some to; told = to; greatest = max old.greatest to; watch = watch })
 read_on terms journal old watch from to got b d f first test is reach far takes same =

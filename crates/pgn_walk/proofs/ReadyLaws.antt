@@ -48,9 +48,11 @@ ready_stays s (show.Raising flag) e h = same s (walk.Raising flag) e refl
 ready_stays s (show.Awaiting flag) e h = same s (walk.Awaiting flag) e refl
 ready_stays s show.Quitting e h = same s walk.Quitting e refl
 
+-- a walk that owes rows of which there are none passes them over, as the state does
 pub ready_with : (section : Section) (journal : List Tx) (at : Standing) (s : State) → has_no_rows at.owed ≡ true → Holds section journal at s → Holds section journal (record at { owed = behind_rows at.owed }) (ready s)
 ready_with section journal at s none h =
     subst (λ (t : State). Holds section journal (record at { owed = behind_rows at.owed }) t) (sym (ready_skips s at.owed h.owed none)) (holds_owed section journal at s (behind_rows at.owed) (owed_of (behind_rows at.owed)) h refl)
 
+-- each other walk stays where it stands
 pub ready_without : (section : Section) (journal : List Tx) (at : Standing) (s : State) → has_no_rows at.owed ≡ false → Holds section journal at s → Holds section journal at (ready s)
 ready_without section journal at s some h = subst (λ (t : State). Holds section journal at t) (sym (ready_stays s at.owed h.owed some)) h

@@ -35,8 +35,10 @@ module _ {X : Type 0} (same : X → X → Bool) where
   is_same itself [] = refl
   is_same itself (x ∷ xs) = ap (λ (b : Bool). cond b (same_by same xs xs) false) (itself x) ∙ is_same itself xs
 
+-- the test of notifications finds the same ones equal, and no others
 pub notes_are : (a b : List Note) → (same_by same_note a b ≡ true) ↔ (a ≡ b)
 notes_are a b = (same_is same_note same_note-true a b, λ e. subst (λ (them : List Note). same_by same_note a them ≡ true) e (is_same same_note same_note-same a))
 
+-- the test of names finds the same ones equal, and no others
 pub names_are : (a b : List (List ℕ)) → (same_by bytes_eq a b ≡ true) ↔ (a ≡ b)
 names_are a b = (same_is bytes_eq (λ x y. (bytes_eq-Decides x y).0) a b, λ e. subst (λ (them : List (List ℕ)). same_by bytes_eq a them ≡ true) e (is_same bytes_eq (λ x. (bytes_eq-Decides x x).1 refl) a))

@@ -21,6 +21,7 @@ no_flag = record {
   unknown = λ flag. (λ h. refl, λ h. (λ k d lt. absurd (omega (arith, lt)), λ k d lt. absurd (omega (arith, lt))));
 }
 
+-- a walk that stands at the beginning keeps what the first state has
 pub holds_first : (section : Section) (journal : List Tx) (at : Standing) → at.next ≡ 0 → at.owed ≡ show.Nothing → at.block ≡ idle_view → at.set.channels ≡ [] → at.mark ≡ None → at.told ≡ 3 → at.greatest ≡ 0 → at.known.entries ≡ []
     → IsWatch journal section.db at.set.channels at.mark at.watch → Holds section journal at (start section)
 holds_first section journal at next owed block set mark told greatest known watch = record {

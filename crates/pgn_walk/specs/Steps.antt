@@ -1,8 +1,9 @@
 -- What the steps of the walk do.
-use Rattle.std.specs.Prelude.{◌≡◌, ◌≢◌, ◌↔◌, ◌≤◌, ◌||◌, ℕ, nat_le, Bool, true, false, List, length, None, IfSome}
+use Rattle.std.specs.Prelude.{◌≡◌, ◌≢◌, ◌↔◌, ◌<◌, ◌≤◌, ◌||◌, ℕ, nat_le, Bool, true, false, List, length, Some, None, IfSome}
 use Rattle.pgn_answers.specs.Answers.{Outcome, GivesChannels}
 use Rattle.pgn_answers.specs.Savepoints.{Change}
 use Rattle.pgn_journal.specs.declared.tx.Tx.{Tx}
+use Rattle.pgn_journal.specs.Journal.{next_xid}
 use Rattle.pgn_language.specs.declared.scenario.Section.{Section}
 use Rattle.pgn_model.specs.declared.item.Item.{Item}
 use Rattle.pgn_model.specs.Walk.{Terms, State, Nothing, Allowed, after_item, owing}
@@ -34,6 +35,10 @@ IsGivenBy old effect names count new = (section : Section) (journal : List Tx) (
 pub record Moves (terms : Terms) (journal : List Tx) (old : Standing) (item : Item) (allowed : Bool) (new : Standing) : Type 0 where
   pub judged : (s : State) → Holds terms.section journal old s → (allowed ≡ true) ↔ Allowed terms journal s (with_owed s.owed item)
   pub moved : (s : State) → Holds terms.section journal old s → allowed ≡ true → Holds terms.section journal new (after_item s (with_owed s.owed item))
+
+-- a read may lead from here to there: from the mark on, forward, and to no number before what the session was told of or past the journal
+abbrev pub Reaches : Standing → List Tx → ℕ → ℕ → Type 0
+Reaches at journal from to = (at.mark ≡ Some from) × (from < to) × (at.told ≤ to) × (to ≤ next_xid journal)
 
 -- a flag is known with a number, and else all is as it was
 pub record Knows (old : Standing) (flag value : ℕ) (new : Standing) : Type 0 where

@@ -2,7 +2,6 @@ ghost use Rattle.std.specs.Prelude.{◌≡◌, ◌&&◌, OnOk, is_none};
 ghost use Rattle.std.specs.List.{list_any};
 ghost use Rattle.pgn_base.specs.Channels.{applied};
 ghost use Rattle.pgn_answers.specs.Savepoints.{is_listen};
-ghost use Rattle.pgn_model.specs.Walk.{State};
 ghost use Rattle.pgn_model.specs.Walk.{leaving_or_answering, queueing_or_settled, settled};
 ghost use Rattle.pgn_ledger.specs.ToShow.{ending_of};
 ghost use Rattle.pgn_walk.specs.Standing.{Leads, commits};
@@ -22,7 +21,8 @@ impl Standing<'_> {
         notes: Notes,
         ending: Ending,
     ) -> Result<(), AllocError>
-        ensures { OnOk result (Leads self.old self.new (λ s. commits s actions notes (ending_of ending))) }
+        ensures { OnOk result (Leads self.old self.new
+            (λ s. commits s actions notes (ending_of ending))) }
     {
         if self.is_to_enlist(actions.as_slice()) {
             self.owed.set(ToShow::Enlisting {
@@ -50,7 +50,8 @@ impl Standing<'_> {
         notes: Notes,
         ending: Ending,
     ) -> Result<(), AllocError>
-        ensures { OnOk result (Leads self.old self.new (λ s. queueing_or_settled s actions notes (ending_of ending))) }
+        ensures { OnOk result (Leads self.old self.new
+            (λ s. queueing_or_settled s actions notes (ending_of ending))) }
     {
         if notes.as_slice().is_empty() {
             return self.settle(actions, ending);
@@ -65,7 +66,8 @@ impl Standing<'_> {
 
     /// The actions take effect.
     pub fn settle(&mut self, actions: Actions, ending: Ending) -> Result<(), AllocError>
-        ensures { OnOk result (Leads self.old self.new (λ s. settled s actions (ending_of ending))) }
+        ensures { OnOk result (Leads self.old self.new
+            (λ s. settled s actions (ending_of ending))) }
     {
         self.act(actions)?;
         self.leave_or_answer(ending);
@@ -75,7 +77,8 @@ impl Standing<'_> {
     // The actions change the set, and what is due next.
     #[tactic(auto, using(crate::proofs::CommitLaws::acts, crate::proofs::CommitLaws::acts_not))]
     fn act(&mut self, actions: Actions) -> Result<(), AllocError>
-        ensures { OnOk result (Leads self.old self.new (λ s. record s { set = applied s.set actions })) }
+        ensures { OnOk result (Leads self.old self.new
+            (λ s. record s { set = applied s.set actions })) }
     {
         if actions.as_slice().is_empty() {
             return Ok(());

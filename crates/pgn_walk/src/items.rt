@@ -1,4 +1,4 @@
-ghost use Rattle.std.specs.Prelude.{◌≡◌, ◌↔◌, ◌<◌, ◌≤◌, ℕ, max, true, false, Option, Some, None, List, IfOk, OnOk, IfSome, IsSomeAnd};
+ghost use Rattle.std.specs.Prelude.{◌≡◌, ◌↔◌, ◌≤◌, ℕ, max, true, false, Option, Some, None, List, IfOk, OnOk, IfSome, IsSomeAnd};
 ghost use Rattle.pgn_base.specs.declared.note.Note.{Note};
 ghost use Rattle.pgn_journal.specs.Journal.{entry, next_xid};
 ghost use Rattle.pgn_language.specs.declared.scenario.Section.{Section};
@@ -7,9 +7,10 @@ ghost use Rattle.pgn_journal.specs.declared.tx.Tx.{Tx};
 ghost use Rattle.pgn_model.specs.Walk.{Settings, Terms, IsAbortedBy, IsCommittedBy};
 ghost use Rattle.pgn_due.specs.Next.{IsWatch};
 ghost use Rattle.pgn_walk.specs.Standing.{known_at};
-ghost use Rattle.pgn_walk.specs.Steps.{Knows, Moves, may_read};
+ghost use Rattle.pgn_walk.specs.Steps.{Knows, Moves, Reaches, may_read};
 
 use crate::same::{same_names, same_notes, same_refusal, same_reply};
+use crate::span::Span;
 use crate::standing::Standing;
 use pgn_answers::BlockState;
 use pgn_base::{Delivery, Full, Name, Note, Refusal, Seq, Tag, Usage, Warning, Xid};
@@ -44,7 +45,8 @@ impl Standing<'_> {
     /// The session becomes a listener.
     #[tactic(auto, using(crate::proofs::ItemLaws::enlist_early, crate::proofs::ItemLaws::enlist_never, crate::proofs::ItemLaws::enlist_on))]
     pub fn enlist(&mut self, ledger: &Ledger, base: Xid, point: Xid) -> Result<bool, AllocError>
-        ensures { IfOk result (λ allowed. (terms : Terms) → Moves terms ledger.now.journal.now self.old (Item.Enlist base point) allowed self.new) }
+        ensures { IfOk result (λ allowed. (terms : Terms)
+            → Moves terms ledger.now.journal.now self.old (Item.Enlist base point) allowed self.new) }
     {
         if !self.may_enlist(ledger, base, point) {
             return Ok(false);
@@ -68,7 +70,9 @@ impl Standing<'_> {
 
     // The point is not below the base, nor below what the session was told, nor below any earlier mark.
     fn may_enlist(&self, ledger: &Ledger, base: Xid, point: Xid) -> bool
-        ensures value { (result ≡ true) ↔ ((base ≤ point) × (self.now.told ≤ point) × (self.now.greatest ≤ point) × (point ≤ next_xid ledger.now.journal.now)) }
+        ensures value { (result ≡ true) ↔
+            ((base ≤ point) × (self.now.told ≤ point) × (self.now.greatest ≤ point)
+            × (point ≤ next_xid ledger.now.journal.now)) }
         ensures first { 3 ≤ base }
     {
         base.get() <= point.get()
@@ -79,8 +83,11 @@ impl Standing<'_> {
 
     // The mark is here, and it is the greatest; everything before it is known to be finished.
     fn stand_at(&mut self, point: Xid) -> Result<(), AllocError>
-        ensures stands { OnOk result (self.new ≡ record self.old { mark = Some point; told = point; greatest = point; watch = self.new.watch }) }
-        ensures watches { OnOk result ((journal : List Tx) (db : ℕ) (before : List (List ℕ)) (was : Option ℕ) → IsWatch journal db before was self.old.watch → IsWatch journal db self.old.set.channels (Some point) self.new.watch) }
+        ensures stands { OnOk result
+            (self.new ≡ record self.old { mark = Some point; told = point; greatest = point; watch = self.new.watch }) }
+        ensures watches { OnOk result ((journal : List Tx) (db : ℕ) (before : List (List ℕ)) (was : Option ℕ)
+            → IsWatch journal db before was self.old.watch
+            → IsWatch journal db self.old.set.channels (Some point) self.new.watch) }
     {
         self.watch.begin(&self.set, point)?;
         self.mark = Some(point);
@@ -127,7 +134,8 @@ impl Standing<'_> {
 
     // A number is not below what the session was told, nor below its mark.
     fn is_behind(&self, xid: Xid) -> bool
-        ensures { (result ≡ true) ↔ ((self.now.told ≤ xid) × IfSome self.now.mark (λ mark. mark ≤ xid)) }
+        ensures { (result ≡ true) ↔
+            ((self.now.told ≤ xid) × IfSome self.now.mark (λ mark. mark ≤ xid)) }
     {
         self.told <= xid && is_past(&self.mark, xid)
     }
@@ -169,7 +177,8 @@ impl Standing<'_> {
     /// The session stopped being a listener.
     #[tactic(auto, using(crate::proofs::AnswerLaws::leave_never, crate::proofs::AnswerLaws::leave_on, crate::proofs::AnswerLaws::leave_quit))]
     pub fn leave(&mut self) -> bool
-        ensures { (terms : Terms) (journal : List Tx) → Moves terms journal self.old Item.Leave result self.new }
+        ensures { (terms : Terms) (journal : List Tx)
+            → Moves terms journal self.old Item.Leave result self.new }
     {
         match mem::replace(&mut self.owed, ToShow::Nothing) {
             ToShow::Leaving { ending } => {
@@ -191,7 +200,8 @@ impl Standing<'_> {
     /// A tag.
     #[tactic(auto, using(crate::proofs::AnswerLaws::reply_never))]
     pub fn reply(&mut self, tag: &Tag, warning: &Option<Warning>) -> bool
-        ensures { (terms : Terms) (journal : List Tx) → Moves terms journal self.old (Item.Reply tag.now warning.now) result self.new }
+        ensures { (terms : Terms) (journal : List Tx)
+            → Moves terms journal self.old (Item.Reply tag.now warning.now) result self.new }
     {
         match mem::replace(&mut self.owed, ToShow::Nothing) {
             ToShow::Answering { ending } => is_reply(&ending, tag, warning),
@@ -205,7 +215,8 @@ impl Standing<'_> {
     /// A refusal.
     #[tactic(auto, using(crate::proofs::AnswerLaws::refuse_never))]
     pub fn refuse(&mut self, refusal: &Refusal) -> bool
-        ensures { (terms : Terms) (journal : List Tx) → Moves terms journal self.old (Item.Refuse refusal.now) result self.new }
+        ensures { (terms : Terms) (journal : List Tx)
+            → Moves terms journal self.old (Item.Refuse refusal.now) result self.new }
     {
         match mem::replace(&mut self.owed, ToShow::Nothing) {
             ToShow::Answering { ending } => is_refusal(&ending, refusal),
@@ -219,7 +230,8 @@ impl Standing<'_> {
     /// Rows of channels.
     #[tactic(auto, using(crate::proofs::AnswerLaws::rows_never, crate::proofs::AnswerLaws::rows_by))]
     pub fn rows(&mut self, names: &[Name]) -> bool
-        ensures { (terms : Terms) (journal : List Tx) → Moves terms journal self.old (Item.Channels names.now) result self.new }
+        ensures { (terms : Terms) (journal : List Tx)
+            → Moves terms journal self.old (Item.Channels names.now) result self.new }
     {
         match mem::replace(&mut self.owed, ToShow::Nothing) {
             ToShow::Listing { names: due, ending } => {
@@ -259,7 +271,8 @@ impl Standing<'_> {
     /// A flag was raised.
     #[tactic(auto, using(crate::proofs::FlagLaws::raise_never, crate::proofs::FlagLaws::raise_other, crate::proofs::FlagLaws::raise_on))]
     pub fn raise(&mut self, value: Xid) -> Result<bool, AllocError>
-        ensures { IfOk result (λ allowed. (terms : Terms) (journal : List Tx) → Moves terms journal self.old (Item.Raise value) allowed self.new) }
+        ensures { IfOk result (λ allowed. (terms : Terms) (journal : List Tx)
+            → Moves terms journal self.old (Item.Raise value) allowed self.new) }
     {
         let ToShow::Raising { flag } = self.owed else {
             return Ok(false);
@@ -275,7 +288,8 @@ impl Standing<'_> {
     /// A flag was found.
     #[tactic(auto, using(crate::proofs::FlagLaws::find_never, crate::proofs::FlagLaws::find_small, crate::proofs::FlagLaws::find_on))]
     pub fn find(&mut self, value: Xid) -> Result<bool, AllocError>
-        ensures { IfOk result (λ allowed. (terms : Terms) (journal : List Tx) → Moves terms journal self.old (Item.Found value) allowed self.new) }
+        ensures { IfOk result (λ allowed. (terms : Terms) (journal : List Tx)
+            → Moves terms journal self.old (Item.Found value) allowed self.new) }
     {
         let ToShow::Awaiting { flag } = self.owed else {
             return Ok(false);
@@ -290,7 +304,8 @@ impl Standing<'_> {
 
     // The session was told of a number, and has nothing left to show.
     fn hear(&mut self, value: Xid)
-        ensures { self.new ≡ record self.old { told = max self.old.told value; owed = ToShow.Nothing } }
+        ensures { self.new ≡
+            record self.old { told = max self.old.told value; owed = ToShow.Nothing } }
     {
         if self.told < value {
             self.told = value;
@@ -300,7 +315,8 @@ impl Standing<'_> {
 
     // No greater number is known of the flag.
     fn is_greatest(&self, flag: u32, value: Xid) -> bool
-        ensures { (result ≡ true) ↔ IfSome (known_at self.now.known.entries flag) (λ most. most ≤ value) }
+        ensures { (result ≡ true) ↔
+            IfSome (known_at self.now.known.entries flag) (λ most. most ≤ value) }
     {
         match self.known.get(&flag) {
             None => true,
@@ -350,19 +366,20 @@ impl Standing<'_> {
         &mut self,
         section: &Section,
         ledger: &Ledger,
-        from: Xid,
-        to: Xid,
+        span: &Span,
         got: &Seq<Delivery>,
     ) -> Result<bool, AllocError>
-        ensures { IfOk result (λ allowed. (settings : Settings) → Moves (record { section = section.now; settings = settings }) ledger.now.journal.now self.old (Item.Read from to got.now) allowed self.new) }
+        ensures { IfOk result (λ allowed. (settings : Settings)
+            → Moves (record { section = section.now; settings = settings }) ledger.now.journal.now self.old
+            (Item.Read span.now.from span.now.to got.now) allowed self.new) }
     {
-        if !self.may_read(section) || !self.reaches(ledger, from, to) {
+        if !self.may_read(section) || !self.reaches(ledger, span) {
             return Ok(false);
         }
-        if !self.watch.takes(to, got.as_slice())? {
+        if !self.watch.takes(span.to, got.as_slice())? {
             return Ok(false);
         }
-        self.come_to(to);
+        self.come_to(span.to);
         Ok(true)
     }
 
@@ -385,24 +402,26 @@ impl Standing<'_> {
     }
 
     // A read goes from the mark on, and to no earlier than what the session was told.
-    fn reaches(&self, ledger: &Ledger, from: Xid, to: Xid) -> bool
-        ensures value { (result ≡ true) ↔ ((self.now.mark ≡ Some from) × (from < to) × (self.now.told ≤ to) × (to ≤ next_xid ledger.now.journal.now)) }
-        ensures first { result ≡ true → 3 ≤ from }
+    fn reaches(&self, ledger: &Ledger, span: &Span) -> bool
+        ensures value { (result ≡ true) ↔
+            Reaches self.now ledger.now.journal.now span.now.from span.now.to }
+        ensures first { result ≡ true → 3 ≤ span.now.from }
     {
         match &self.mark {
             None => false,
             Some(mark) => {
-                mark.get() == from.get()
-                    && from < to
-                    && self.told <= to
-                    && to.get() <= ledger.next_xid()
+                mark.get() == span.from.get()
+                    && span.from < span.to
+                    && self.told <= span.to
+                    && span.to.get() <= ledger.next_xid()
             }
         }
     }
 
     // The mark is here, and everything before it is known to be finished.
     fn come_to(&mut self, to: Xid)
-        ensures { self.new ≡ record self.old { mark = Some to; told = to; greatest = max self.old.greatest to } }
+        ensures { self.new ≡
+            record self.old { mark = Some to; told = to; greatest = max self.old.greatest to } }
     {
         self.mark = Some(to);
         self.told = to;
@@ -447,7 +466,8 @@ fn is_past(mark: &Option<Xid>, xid: Xid) -> bool
 
 // The transaction is this session's, of its database, with these notifications, and committed.
 fn is_committed_by(section: &Section, ledger: &Ledger, notes: &[Note], xid: Xid) -> bool
-    ensures { (result ≡ true) ↔ IsSomeAnd (entry ledger.now.journal.now xid) (IsCommittedBy section.now notes.now) }
+    ensures { (result ≡ true) ↔ IsSomeAnd (entry ledger.now.journal.now xid)
+        (IsCommittedBy section.now notes.now) }
 {
     let Some(tx) = ledger.entry(xid) else {
         return false;
@@ -460,7 +480,8 @@ fn is_committed_by(section: &Section, ledger: &Ledger, notes: &[Note], xid: Xid)
 
 // The transaction is this session's, of its database, with these notifications, and aborted with so many of them queued.
 fn is_aborted_by(section: &Section, ledger: &Ledger, notes: &[Note], full: &Full) -> bool
-    ensures { (result ≡ true) ↔ IsSomeAnd (entry ledger.now.journal.now full.now.xid) (IsAbortedBy section.now notes.now full.now.queued) }
+    ensures { (result ≡ true) ↔ IsSomeAnd (entry ledger.now.journal.now full.now.xid)
+        (IsAbortedBy section.now notes.now full.now.queued) }
 {
     let Some(tx) = ledger.entry(full.xid) else {
         return false;
@@ -473,7 +494,9 @@ fn is_aborted_by(section: &Section, ledger: &Ledger, notes: &[Note], full: &Full
 
 // It is this session's, of its database, with these notifications.
 fn is_of(section: &Section, notes: &[Note], tx: &Tx) -> bool
-    ensures { (result ≡ true) ↔ ((tx.now.session ≡ section.now.no) × (tx.now.db ≡ section.now.db) × (tx.now.notes ≡ notes.now)) }
+    ensures { (result ≡ true) ↔
+        ((tx.now.session ≡ section.now.no) × (tx.now.db ≡ section.now.db)
+        × (tx.now.notes ≡ notes.now)) }
 {
     tx.session == section.no && tx.db == section.db && same_notes(tx.notes.as_slice(), notes)
 }

@@ -8,6 +8,8 @@ mod commit;
 mod items;
 mod line;
 mod same;
+mod span;
 mod standing;
 
+pub use span::Span;
 pub use standing::Standing;

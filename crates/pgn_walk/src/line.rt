@@ -1,10 +1,7 @@
-ghost use Rattle.std.specs.Prelude.{◌≡◌, ◌≢◌, OnOk, IfOk, List, length};
+ghost use Rattle.std.specs.Prelude.{◌≡◌, ◌≢◌, OnOk, IfOk, length};
 ghost use Rattle.pgn_answers.specs.Answers.{answer};
 ghost use Rattle.pgn_answers.specs.Savepoints.{live_names};
-ghost use Rattle.pgn_language.specs.declared.scenario.Section.{Section};
-ghost use Rattle.pgn_journal.specs.declared.tx.Tx.{Tx};
-ghost use Rattle.pgn_model.specs.Walk.{State, Nothing, at_act, at_outcome, quitting};
-ghost use Rattle.pgn_walk.specs.Standing.{Holds, Leads};
+ghost use Rattle.pgn_model.specs.Walk.{at_act, at_outcome, quitting};
 ghost use Rattle.pgn_walk.specs.Steps.{BeginsFrom, IsGivenBy};
 
 use crate::standing::Standing;
@@ -57,7 +54,8 @@ impl Standing<'_> {
     // A command begins.
     #[tactic(auto, using(crate::proofs::LineLaws::runs))]
     fn run(&mut self, alloc: Global, command: &Command) -> Result<(), AllocError>
-        ensures { OnOk result (BeginsFrom self.old self.new (λ s. at_outcome s command.now (answer s.block (live_names s.changes) s.set command.now))) }
+        ensures { OnOk result (BeginsFrom self.old self.new
+            (λ s. at_outcome s command.now (answer s.block (live_names s.changes) s.set command.now))) }
     {
         let rows = rows_for(alloc, command, self.block.state(), &self.set)?;
         let effect = self.block.step(command.copy(alloc)?)?;
@@ -113,7 +111,8 @@ impl Standing<'_> {
 
     // Rows are to be shown, and then their number.
     fn list(&mut self, rows: Rows)
-        ensures { self.new ≡ record self.old { owed = ToShow.Listing rows.names (Ending.Replied (Tag.Select rows.count) None) } }
+        ensures { self.new ≡
+            record self.old { owed = ToShow.Listing rows.names (Ending.Replied (Tag.Select rows.count) None) } }
     {
         let Rows { names, count } = rows;
         self.owed.set(ToShow::Listing {
@@ -141,7 +140,8 @@ fn rows_for(
     state: BlockState,
     set: &ListenSet,
 ) -> Result<Rows, AllocError>
-    ensures names { IfOk result (λ rows. command.now ≡ Command.ListeningChannels → state ≢ BlockState.Failed → rows.names ≡ set.now.channels) }
+    ensures names { IfOk result (λ rows. command.now ≡ Command.ListeningChannels
+        → state ≢ BlockState.Failed → rows.names ≡ set.now.channels) }
     ensures count { IfOk result (λ rows. rows.count ≡ length rows.names) }
 {
     let (Command::ListeningChannels, BlockState::Idle | BlockState::InBlock) = (command, state)

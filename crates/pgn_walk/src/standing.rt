@@ -35,7 +35,8 @@ impl<'a> Standing<'a> {
     /// Before the first item, in this database. Hashes are made with the seed of what the journal sent.
     #[tactic(auto, using(crate::proofs::StandingLaws::holds_first))]
     pub fn new(alloc: Global, feed: &'a Feed<'a>, db: DbOid) -> Standing<'a>
-        ensures { (section : Section) → section.db ≡ db → Holds section feed.now.sends.journal.now result (start section) }
+        ensures { (section : Section) → section.db ≡ db
+            → Holds section feed.now.sends.journal.now result (start section) }
     {
         let seed = feed.seed();
         Standing {

@@ -7,7 +7,7 @@ use Rattle.pgn_model.specs.Legal.{EachTrace}
 use Rattle.pgn_model.specs.Walk.{Terms}
 use Rattle.pgn_reading.specs.Form.{IsReadTrace}
 use Rattle.pgn_reading.specs.WholeLaws.{IsWalked}
-use Rattle.pgn_check.specs.Sections.{settings_at}
+use Rattle.pgn_check.specs.Sections.{settings_on}
 use Rattle.pgn_check.proofs.SectionLaws.{each_long, fits_at, is_at, least_at, line_on, read_at, trace_long, walked_on}
 use Rattle.pgn_check.proofs.sections.walk_all.Goals as goal
 
@@ -33,7 +33,7 @@ returns-in-Some c =
     let t = c.index-traces-at.result in
     let at = is_at sections traces k s t c.index-sections-at.is c.index-traces-at.is c.loop-at-test.true c.requires.read in
     let read : IsReadTrace s t = read_at sections traces k s t at c.requires.read in
-    least_at (settings_at c.args.ledger.now c.args.limit c.args.patience) c.args.ledger.now.journal.now sections traces k c.args.head c.loop-at.line c.in-Some.number s t c.requires.read at c.loop-at.invariant.line
+    least_at (settings_on c.args.grounds.now) c.args.grounds.now.ledger.now.journal.now sections traces k c.args.head c.loop-at.line c.in-Some.number s t c.requires.read at c.loop-at.invariant.line
     c.loop-at.invariant.walked (rw c.in-Some.is at (c.in_ok-number.ensures sections traces c.requires.tells read))
 
 pub lines_of_trace-line-requires : goal.lines_of_trace-line-requires
@@ -68,7 +68,7 @@ loop-at-preserved c =
     let read : IsReadTrace s t = read_at sections traces k s t at c.requires.read in
     record {
       line = omega (arith, c.lines_of_trace-line.ensures s, line_on sections traces k c.args.head c.loop-at.line s t at c.loop-at.invariant.line);
-      walked = walked_on (settings_at c.args.ledger.now c.args.limit c.args.patience) (λ terms trace. IsWalked terms c.args.ledger.now.journal.now sections traces trace) sections traces k s t at c.loop-at.invariant.walked
+      walked = walked_on (settings_on c.args.grounds.now) (λ terms trace. IsWalked terms c.args.grounds.now.ledger.now.journal.now sections traces trace) sections traces k s t at c.loop-at.invariant.walked
           (rw c.in-None.is at (c.in_ok-number.ensures sections traces c.requires.tells read));
     }
 
@@ -76,7 +76,7 @@ pub returns : goal.returns
 returns c =
     let sections = c.args.sections.now in
     let traces = c.args.traces.now in
-    let P : Terms → Trace → Type 0 = λ terms trace. IsWalked terms c.args.ledger.now.journal.now sections traces trace in
-    let settings = settings_at c.args.ledger.now c.args.limit c.args.patience in
+    let P : Terms → Trace → Type 0 = λ terms trace. IsWalked terms c.args.grounds.now.ledger.now.journal.now sections traces trace in
+    let settings = settings_on c.args.grounds.now in
     subst (λ (ss : List Section). EachTrace settings P ss traces) (take_all c.loop-at.at sections (omega (arith, each_long sections traces c.requires.read)))
     (subst (λ (ts : List Trace). EachTrace settings P (take c.loop-at.at sections) ts) (take_all c.loop-at.at traces (omega arith)) c.loop-at.invariant.walked)

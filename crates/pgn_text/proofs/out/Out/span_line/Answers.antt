@@ -1,6 +1,6 @@
 use Rattle.std.proofs.Common.{refl}
 use Rattle.pgn_text.proofs.PutsLaws.{Puts-behind, Puts-same, Puts-trans}
-use Rattle.pgn_text.proofs.out.Out.xids_line.Goals as goal
+use Rattle.pgn_text.proofs.out.Out.span_line.Goals as goal
 
 pub returns : goal.returns
 returns g c =
