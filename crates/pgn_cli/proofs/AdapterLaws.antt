@@ -36,4 +36,5 @@ pub WriteAppends-kept : {E : Type 0} (old mid new : Option (List ℕ)) (result :
 WriteAppends-kept old mid new (Ok n) piece k h = appends-kept old mid new (take n piece) k h
 WriteAppends-kept old mid new (Err e) piece k h = Keeps-trans old mid new k h
 
+-- what an adapter's reads and writes keep of its count of faults
 pub ruleset adapter_laws = (Keeps-same, Keeps-trans, ReadConsumes-kept, WriteAppends-kept)

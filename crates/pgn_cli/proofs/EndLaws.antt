@@ -37,9 +37,11 @@ written-whole old new before now (Err e) text h cause none = absurd (none cause.
 pub is-ok-and : {T E : Type 0} (words : Result T E) (w : T) (P : T → Type 0) → words ≡ Ok w → P w → IsOkAnd words P
 is-ok-and {T} {E} words w P is h = subst (λ (r : Result T E). IsOkAnd r P) (sym is) h
 
+-- what holds of the words that were read holds where words were read
 pub if-ok : {T E : Type 0} (words : Result T E) (w : T) (P : T → Type 0) → words ≡ Ok w → P w → IfOk words P
 if-ok {T} {E} words w P is h = subst (λ (r : Result T E). IfOk r P) (sym is) h
 
+-- and what holds where words were read holds of those that were
 pub of-ok : {T E : Type 0} (words : Result T E) (w : T) (P : T → Type 0) → words ≡ Ok w → IfOk words P → P w
 of-ok {T} {E} words w P is h = subst (λ (r : Result T E). IfOk r P) is h
 
@@ -189,6 +191,7 @@ pub memory-lines : {T E : Type 0} (words : Result T E) (Asks : T → Type 0) (P 
 memory-lines (Ok w) Asks P status code is h = λ ask six. h ask (memory-code status code is six)
 memory-lines (Err e) Asks P status code is h = h
 
+-- what a read fault says by its status it says by the exit status 4
 pub read-lines : {T E : Type 0} (words : Result T E) (Asks : T → Type 0) (P : (t : T) → Asks t → Type 0) (status : Status) (code : ℕ) → code ≡ code_of status
     → IfOk words (λ (w : T). (ask : Asks w) → status ≡ ReadFault → P w ask) → IfOk words (λ (w : T). (ask : Asks w) → code ≡ 4 → P w ask)
 read-lines (Ok w) Asks P status code is h = λ ask four. h ask (read-fault-code status code is four)
@@ -281,6 +284,7 @@ frame-at : {T E : Type 0} (r : Result T E) (of : T → List (List ℕ)) (fault :
 frame-at (Ok w) of fault left held now old new line served = frame-said (of w) fault left held now old new line served
 frame-at (Err e) of fault left held now old new line served = absurd served
 
+-- a frame fault that was served up to and written on the line of errors is what the exit status 12 says
 pub names-frame : {T E : Type 0} (words : Result T E) (of : T → List (List ℕ)) (left held now old new : Option (List ℕ)) (status : Status) (code : ℕ) → code ≡ code_of status → AppendsPrefix old new (fault_text status)
     → ((fault : FrameFault) → status ≡ BadFrame fault → IsOkAnd words (λ (w : T). ServesUpTo (of w) fault left held now)) → code ≡ 12 → IsOkAnd words (λ (w : T). SaysBadFrame (of w) left held now old new)
 names-frame words of left held now old new status code is line serves twelve =
@@ -293,6 +297,7 @@ pub if-read : {T E : Type 0} (words : Result T E) (P : T → Type 0) (status : S
 if-read (Ok w) P status code is h = λ four. h (read-fault-code status code is four)
 if-read (Err e) P status code is h = h
 
+-- what want of memory says by its status it says by the exit status 6
 pub if-memory : {T E : Type 0} (words : Result T E) (P : T → Type 0) (status : Status) (code : ℕ) → code ≡ code_of status
     → IfOk words (λ (w : T). status ≡ NoMemory → P w) → IfOk words (λ (w : T). code ≡ 6 → P w)
 if-memory (Ok w) P status code is h = λ six. h (memory-code status code is six)

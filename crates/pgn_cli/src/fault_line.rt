@@ -1,4 +1,4 @@
-ghost use Rattle.std.specs.Prelude.{◌≡◌, ◌++◌, decimal, codes};
+ghost use Rattle.std.specs.Prelude.{◌≡◌, ◌++◌, decimal};
 ghost use Rattle.pgn_base.specs.Outside.{Writes, HasCause};
 ghost use Rattle.pgn_cli.specs.FaultLine.{at_of, at_of_frame, byte_fault, fault_text, frame_fault_text, line_fault, scenario_fault_text, wire_fault_text};
 
@@ -120,7 +120,8 @@ fn frame_offset(fault: FrameFault) -> u64
 // A number between two texts.
 #[tactic(auto, using(pgn_base::proofs::OutsideLaws::writings))]
 fn numbered<K: Sink>(sink: &mut K, head: &[u8], number: u64, tail: &[u8]) -> Result<(), Failed>
-    ensures bytes { Writes (K.held sink.old) (K.held sink.new) result (head.now ++ decimal number ++ tail.now) }
+    ensures bytes { Writes (K.held sink.old) (K.held sink.new) result
+        (head.now ++ decimal number ++ tail.now) }
     ensures cause { HasCause (K.faults sink.old) (K.faults sink.new) result }
 {
     let mut digits = Buffer::new();

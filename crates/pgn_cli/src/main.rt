@@ -17,7 +17,7 @@ use adapters::{Input, Output};
 use arguments::words;
 use drawing::drawn;
 use fault_line::fault_line;
-use pgn_run::Status;
+use pgn_run::{Means, Status};
 use program::program;
 use std::io::BufReader;
 use std::process::ExitCode;
@@ -29,10 +29,13 @@ fn main(rt: HostRuntime) -> ExitCode {
         let _ = fault_line(&mut errors, &status);
         return ExitCode::from(status.code());
     };
+    let means = Means {
+        rt: &rt,
+        alloc: rt.alloc(),
+        hashes: drawn(&rt),
+    };
     ExitCode::from(program(
-        &rt,
-        rt.alloc(),
-        drawn(&rt),
+        &means,
         words(&rt),
         &mut Input::new(reader),
         &mut Output::new(rt.stdout()),

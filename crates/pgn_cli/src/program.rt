@@ -3,7 +3,6 @@ ghost use Rattle.std.specs.Io.KnownBytes.{Appends};
 ghost use Rattle.pgn_base.specs.Outside.{AppendsPrefix, Rose};
 ghost use Rattle.pgn_language.specs.declared.scenario.ScenarioFault.{ScenarioFault};
 ghost use Rattle.pgn_options.specs.Words.{AreNoCommand};
-ghost use Rattle.pgn_messages.specs.Messages.{messages};
 ghost use Rattle.pgn_queries.specs.declared.wire_fault.WireFault.{WireFault};
 ghost use Rattle.pgn_wire.specs.Serving.{WroteWhole};
 ghost use Rattle.pgn_run.specs.Checking.{HasNoOutput, IsTooLarge};
@@ -14,107 +13,199 @@ ghost use Rattle.pgn_cli.specs.Program.{Ends, IsFaulty, IsRefused, NamesFault, N
 
 use crate::arguments::NoWords;
 use crate::fault_line::fault_line;
-use pgn_base::{Seed, Sink, Source};
-use pgn_run::{Status, run_notify};
+use pgn_base::{Sink, Source};
+use pgn_run::{Means, Status, run_notify};
 use std::alloc::{AllocError, Global};
 use std::sync::Wait;
 use std::thread::Threads;
 use std::time::Clock;
 
 /// All that the program does once it has its words: it calls `run_notify` over these words, and writes one line to `errors`
-/// where the run is not done. The result is the exit status. Hashes are made with the seed. Sessions may wait for one another, so that it is not promised that the call
-/// returns.
+/// where the run is not done. The result is the exit status. Sessions may wait for one another, so that it is not promised that the
+/// call returns.
 pub fn program<S: Source, K: Sink + Send, E: Sink, R: Threads + Wait + Clock + Sync>(
-    rt: &R,
-    alloc: Global,
-    hashes: Seed,
+    means: &Means<'_, R>,
     words: Result<Vec<String>, NoWords>,
     source: &mut S,
     sink: &mut K,
     errors: &mut E,
 ) -> u8
-    ensures ends { Ends result (E.held errors.old) (E.held errors.new) (E.faults errors.old) (E.faults errors.new) }
-    ensures done { result ≡ 0 → IsOkAnd words (λ words. Performs (map string_bytes words.items) (S.left source.old) (Appends (K.held sink.old) (K.held sink.new))) }
-    ensures bad_scenario { result ≡ 3 → IfSome (S.left source.old) (NamesFault (E.held errors.old) (E.held errors.new)) }
-    ensures bad_wire { result ≡ 10 → IsOkAnd words (λ words. AskToWire (map string_bytes words.items))
-        × IfSome (S.left source.old) (NamesWireFault (K.held sink.old) (K.held sink.new) (E.held errors.old) (E.held errors.new)) }
-    ensures bad_frame { result ≡ 12 → IsOkAnd words (λ words. SaysBadFrame (map string_bytes words.items) (S.left source.old) (K.held sink.old) (K.held sink.new) (E.held errors.old) (E.held errors.new)) }
-    ensures illegal { result ≡ 8 → IsOkAnd words (λ words. (ask : AskToCheck (map string_bytes words.items))
-        × IfSome (S.left source.old) (SaysIllegal (asked_settings ask) (K.held sink.old) (K.held sink.new))) }
-    ensures no_output { result ≡ 9 → IsOkAnd words (λ words. AskToCheck (map string_bytes words.items)) × IfSome (S.left source.old) HasNoOutput }
-    ensures check_too_large { result ≡ 11 → IsOkAnd words (λ words. AskToCheck (map string_bytes words.items)) × IfSome (S.left source.old) IsTooLarge }
+    ensures ends { Ends result (E.held errors.old) (E.held errors.new) (E.faults errors.old)
+        (E.faults errors.new) }
+    ensures done { result ≡ 0
+        → IsOkAnd words (λ words.
+        Performs (map string_bytes words.items) (S.left source.old)
+        (Appends (K.held sink.old) (K.held sink.new))) }
+    ensures bad_scenario { result ≡ 3
+        → IfSome (S.left source.old) (NamesFault (E.held errors.old) (E.held errors.new)) }
+    ensures bad_wire { result ≡ 10
+        → IsOkAnd words (λ words. AskToWire (map string_bytes words.items))
+        × IfSome (S.left source.old)
+        (NamesWireFault (K.held sink.old) (K.held sink.new) (E.held errors.old)
+        (E.held errors.new)) }
+    ensures bad_frame { result ≡ 12
+        → IsOkAnd words (λ words.
+        SaysBadFrame (map string_bytes words.items) (S.left source.old) (K.held sink.old)
+        (K.held sink.new) (E.held errors.old) (E.held errors.new)) }
+    ensures illegal { result ≡ 8
+        → IsOkAnd words (λ words.
+        (ask : AskToCheck (map string_bytes words.items))
+        × IfSome (S.left source.old)
+        (SaysIllegal (asked_settings ask) (K.held sink.old) (K.held sink.new))) }
+    ensures no_output { result ≡ 9
+        → IsOkAnd words (λ words. AskToCheck (map string_bytes words.items))
+        × IfSome (S.left source.old) HasNoOutput }
+    ensures check_too_large { result ≡ 11
+        → IsOkAnd words (λ words. AskToCheck (map string_bytes words.items))
+        × IfSome (S.left source.old) IsTooLarge }
     ensures read_fault { result ≡ 4 → Rose (S.faults source.old) (S.faults source.new) }
-    ensures read_fault_where_due { IfOk words (λ words. ¬ AskToServe (map string_bytes words.items)) → S.faults source.old < S.faults source.new → result ≡ 4 }
-    ensures read_fault_where_served { IfOk words (λ words. AskToServe (map string_bytes words.items) → S.faults source.old < S.faults source.new → (result ≡ 4) ⊎ (result ≡ 5) ⊎ (result ≡ 6)) }
+    ensures read_fault_where_due { IfOk words (λ words. ¬ AskToServe (map string_bytes words.items))
+        → S.faults source.old < S.faults source.new → result ≡ 4 }
+    ensures read_fault_where_served { IfOk words (λ words.
+        AskToServe (map string_bytes words.items) → S.faults source.old < S.faults source.new
+        → (result ≡ 4) ⊎ (result ≡ 5) ⊎ (result ≡ 6)) }
     ensures write_fault { result ≡ 5 → Rose (K.faults sink.old) (K.faults sink.new) }
     ensures write_fault_where_due { K.faults sink.old < K.faults sink.new → result ≡ 5 }
-    ensures write_fault_writes_a_prefix { result ≡ 5 → IsOkAnd words (λ words. PerformsInPart (map string_bytes words.items) (S.left source.old) (AppendsPrefix (K.held sink.old) (K.held sink.new))) }
-    ensures refused_writes_nothing { (result ≡ 2) ⊎ (result ≡ 3) ⊎ (result ≡ 9) ⊎ (result ≡ 11) → K.held sink.new ≡ K.held sink.old }
-    ensures read_fault_writes_nothing { IfOk words (λ words. ¬ AskToWire (map string_bytes words.items)) → IfOk words (λ words. ¬ AskToServe (map string_bytes words.items)) → result ≡ 4 → K.held sink.new ≡ K.held sink.old }
-    ensures read_fault_writes_answers { IfOk words (λ words. AskToWire (map string_bytes words.items) → result ≡ 4
-        → IfSome (S.left source.old) (λ bytes. StopsBetween bytes (Appends (K.held sink.old) (K.held sink.new)))) }
-    ensures read_fault_writes_what_was_told { IfOk words (λ words. result ≡ 4 → ServedFirst (map string_bytes words.items) (S.left source.old) (K.held sink.old) (K.held sink.new)) }
-    ensures no_memory_writes_nothing { IfOk words (λ words. ¬ AskToRunLive (map string_bytes words.items)) → IfOk words (λ words. ¬ AskToWire (map string_bytes words.items))
-        → IfOk words (λ words. ¬ AskToServe (map string_bytes words.items)) → result ≡ 6 → K.held sink.new ≡ K.held sink.old }
-    ensures no_memory_writes_first_lines { IfOk words (λ words. (ask : AskToRunLive (map string_bytes words.items)) → result ≡ 6
-        → (K.held sink.new ≡ K.held sink.old) ⊎ IfSome (S.left source.old) (λ input. SoFarRuns (settings_with ask.pages ask.patience ask.format) input (Appends (K.held sink.old) (K.held sink.new)))) }
-    ensures no_memory_writes_whole_answers { IfOk words (λ words. AskToWire (map string_bytes words.items) → result ≡ 6
-        → IfSome (S.left source.old) (λ bytes. StopsAmong bytes (WroteWhole (K.held sink.old) (K.held sink.new)))) }
-    ensures no_memory_writes_whole_turns { IfOk words (λ words. result ≡ 6 → ServedInPart (map string_bytes words.items) (S.left source.old) (K.held sink.old) (K.held sink.new)) }
+    ensures write_fault_writes_a_prefix { result ≡ 5
+        → IsOkAnd words (λ words.
+        PerformsInPart (map string_bytes words.items) (S.left source.old)
+        (AppendsPrefix (K.held sink.old) (K.held sink.new))) }
+    ensures refused_writes_nothing { (result ≡ 2) ⊎ (result ≡ 3) ⊎ (result ≡ 9) ⊎ (result ≡ 11)
+        → K.held sink.new ≡ K.held sink.old }
+    ensures read_fault_writes_nothing { IfOk words (λ words.
+        ¬ AskToWire (map string_bytes words.items))
+        → IfOk words (λ words. ¬ AskToServe (map string_bytes words.items)) → result ≡ 4
+        → K.held sink.new ≡ K.held sink.old }
+    ensures read_fault_writes_answers { IfOk words (λ words.
+        AskToWire (map string_bytes words.items) → result ≡ 4
+        → IfSome (S.left source.old) (λ bytes.
+        StopsBetween bytes (Appends (K.held sink.old) (K.held sink.new)))) }
+    ensures read_fault_writes_what_was_told { IfOk words (λ words.
+        result ≡ 4
+        → ServedFirst (map string_bytes words.items) (S.left source.old) (K.held sink.old)
+        (K.held sink.new)) }
+    ensures no_memory_writes_nothing { IfOk words (λ words.
+        ¬ AskToRunLive (map string_bytes words.items))
+        → IfOk words (λ words. ¬ AskToWire (map string_bytes words.items))
+        → IfOk words (λ words. ¬ AskToServe (map string_bytes words.items)) → result ≡ 6
+        → K.held sink.new ≡ K.held sink.old }
+    ensures no_memory_writes_first_lines { IfOk words (λ words.
+        (ask : AskToRunLive (map string_bytes words.items)) → result ≡ 6
+        → (K.held sink.new ≡ K.held sink.old)
+        ⊎ IfSome (S.left source.old) (λ input.
+        SoFarRuns (settings_with ask.pages ask.patience ask.format) input
+        (Appends (K.held sink.old) (K.held sink.new)))) }
+    ensures no_memory_writes_whole_answers { IfOk words (λ words.
+        AskToWire (map string_bytes words.items) → result ≡ 6
+        → IfSome (S.left source.old) (λ bytes.
+        StopsAmong bytes (WroteWhole (K.held sink.old) (K.held sink.new)))) }
+    ensures no_memory_writes_whole_turns { IfOk words (λ words.
+        result ≡ 6
+        → ServedInPart (map string_bytes words.items) (S.left source.old) (K.held sink.old)
+        (K.held sink.new)) }
     ensures no_memory { words ≡ Err NoWords.Memory → result ≡ 6 }
     ensures not_text { words ≡ Err NoWords.NotText → result ≡ 2 }
-    ensures right_words { IfOk words (λ words. result ≡ 2 → AreNoCommand (map string_bytes words.items)) }
-    ensures other_words { IfOk words (λ words. AreNoCommand (map string_bytes words.items) → result ≢ 6 → result ≡ 2) }
+    ensures right_words { IfOk words (λ words.
+        result ≡ 2 → AreNoCommand (map string_bytes words.items)) }
+    ensures other_words { IfOk words (λ words.
+        AreNoCommand (map string_bytes words.items) → result ≢ 6 → result ≡ 2) }
 {
-    let status = status_of(rt, alloc, hashes, words, source, sink);
+    let status = status_of(means, words, source, sink);
     let _ = fault_line(errors, &status);
     status.code()
 }
 
 // How a run of these words ends.
 fn status_of<S: Source, K: Sink + Send, R: Threads + Wait + Clock + Sync>(
-    rt: &R,
-    alloc: Global,
-    hashes: Seed,
+    means: &Means<'_, R>,
     words: Result<Vec<String>, NoWords>,
     source: &mut S,
     sink: &mut K,
 ) -> Status
-    ensures done { result ≡ Status.Done → IsOkAnd words (λ words. Performs (map string_bytes words.items) (S.left source.old) (Appends (K.held sink.old) (K.held sink.new))) }
-    ensures bad_scenario { (fault : ScenarioFault) → result ≡ Status.BadScenario fault → IfSome (S.left source.old) (λ input. IsFaulty input fault) }
-    ensures bad_wire { (fault : WireFault) → result ≡ Status.BadWire fault → IsOkAnd words (λ words. AskToWire (map string_bytes words.items))
-        × IfSome (S.left source.old) (λ bytes. BreaksOff bytes fault (Appends (K.held sink.old) (K.held sink.new))) }
-    ensures bad_frame { (fault : FrameFault) → result ≡ Status.BadFrame fault → IsOkAnd words (λ words. ServesUpTo (map string_bytes words.items) fault (S.left source.old) (K.held sink.old) (K.held sink.new)) }
-    ensures illegal { (line : ℕ) → result ≡ Status.Illegal line → IsOkAnd words (λ words. (ask : AskToCheck (map string_bytes words.items))
-        × IfSome (S.left source.old) (SaysIllegal (asked_settings ask) (K.held sink.old) (K.held sink.new))) }
-    ensures no_output { result ≡ Status.NoOutput → IsOkAnd words (λ words. AskToCheck (map string_bytes words.items)) × IfSome (S.left source.old) HasNoOutput }
-    ensures check_too_large { result ≡ Status.CheckTooLarge → IsOkAnd words (λ words. AskToCheck (map string_bytes words.items)) × IfSome (S.left source.old) IsTooLarge }
-    ensures read_fault { result ≡ Status.ReadFault → Rose (S.faults source.old) (S.faults source.new) }
-    ensures read_fault_where_due { IfOk words (λ words. ¬ AskToServe (map string_bytes words.items)) → S.faults source.old < S.faults source.new → result ≡ Status.ReadFault }
-    ensures read_fault_where_served { IfOk words (λ words. AskToServe (map string_bytes words.items) → S.faults source.old < S.faults source.new → (result ≡ Status.ReadFault) ⊎ (result ≡ Status.WriteFault) ⊎ (result ≡ Status.NoMemory)) }
-    ensures write_fault { result ≡ Status.WriteFault → Rose (K.faults sink.old) (K.faults sink.new) }
-    ensures write_fault_where_due { K.faults sink.old < K.faults sink.new → result ≡ Status.WriteFault }
-    ensures write_fault_writes_a_prefix { result ≡ Status.WriteFault → IsOkAnd words (λ words. PerformsInPart (map string_bytes words.items) (S.left source.old) (AppendsPrefix (K.held sink.old) (K.held sink.new))) }
+    ensures done { result ≡ Status.Done
+        → IsOkAnd words (λ words.
+        Performs (map string_bytes words.items) (S.left source.old)
+        (Appends (K.held sink.old) (K.held sink.new))) }
+    ensures bad_scenario { (fault : ScenarioFault) → result ≡ Status.BadScenario fault
+        → IfSome (S.left source.old) (λ input. IsFaulty input fault) }
+    ensures bad_wire { (fault : WireFault) → result ≡ Status.BadWire fault
+        → IsOkAnd words (λ words. AskToWire (map string_bytes words.items))
+        × IfSome (S.left source.old) (λ bytes.
+        BreaksOff bytes fault (Appends (K.held sink.old) (K.held sink.new))) }
+    ensures bad_frame { (fault : FrameFault) → result ≡ Status.BadFrame fault
+        → IsOkAnd words (λ words.
+        ServesUpTo (map string_bytes words.items) fault (S.left source.old) (K.held sink.old)
+        (K.held sink.new)) }
+    ensures illegal { (line : ℕ) → result ≡ Status.Illegal line
+        → IsOkAnd words (λ words.
+        (ask : AskToCheck (map string_bytes words.items))
+        × IfSome (S.left source.old)
+        (SaysIllegal (asked_settings ask) (K.held sink.old) (K.held sink.new))) }
+    ensures no_output { result ≡ Status.NoOutput
+        → IsOkAnd words (λ words. AskToCheck (map string_bytes words.items))
+        × IfSome (S.left source.old) HasNoOutput }
+    ensures check_too_large { result ≡ Status.CheckTooLarge
+        → IsOkAnd words (λ words. AskToCheck (map string_bytes words.items))
+        × IfSome (S.left source.old) IsTooLarge }
+    ensures read_fault { result ≡ Status.ReadFault
+        → Rose (S.faults source.old) (S.faults source.new) }
+    ensures read_fault_where_due { IfOk words (λ words. ¬ AskToServe (map string_bytes words.items))
+        → S.faults source.old < S.faults source.new → result ≡ Status.ReadFault }
+    ensures read_fault_where_served { IfOk words (λ words.
+        AskToServe (map string_bytes words.items) → S.faults source.old < S.faults source.new
+        → (result ≡ Status.ReadFault) ⊎ (result ≡ Status.WriteFault)
+        ⊎ (result ≡ Status.NoMemory)) }
+    ensures write_fault { result ≡ Status.WriteFault
+        → Rose (K.faults sink.old) (K.faults sink.new) }
+    ensures write_fault_where_due { K.faults sink.old < K.faults sink.new
+        → result ≡ Status.WriteFault }
+    ensures write_fault_writes_a_prefix { result ≡ Status.WriteFault
+        → IsOkAnd words (λ words.
+        PerformsInPart (map string_bytes words.items) (S.left source.old)
+        (AppendsPrefix (K.held sink.old) (K.held sink.new))) }
     ensures refused_writes_nothing { IsRefused result → K.held sink.new ≡ K.held sink.old }
-    ensures read_fault_writes_nothing { IfOk words (λ words. ¬ AskToWire (map string_bytes words.items)) → IfOk words (λ words. ¬ AskToServe (map string_bytes words.items)) → result ≡ Status.ReadFault → K.held sink.new ≡ K.held sink.old }
-    ensures read_fault_writes_answers { IfOk words (λ words. AskToWire (map string_bytes words.items) → result ≡ Status.ReadFault
-        → IfSome (S.left source.old) (λ bytes. StopsBetween bytes (Appends (K.held sink.old) (K.held sink.new)))) }
-    ensures read_fault_writes_what_was_told { IfOk words (λ words. result ≡ Status.ReadFault → ServedFirst (map string_bytes words.items) (S.left source.old) (K.held sink.old) (K.held sink.new)) }
-    ensures no_memory_writes_nothing { IfOk words (λ words. ¬ AskToRunLive (map string_bytes words.items)) → IfOk words (λ words. ¬ AskToWire (map string_bytes words.items))
-        → IfOk words (λ words. ¬ AskToServe (map string_bytes words.items)) → result ≡ Status.NoMemory → K.held sink.new ≡ K.held sink.old }
-    ensures no_memory_writes_first_lines { IfOk words (λ words. (ask : AskToRunLive (map string_bytes words.items)) → result ≡ Status.NoMemory
-        → (K.held sink.new ≡ K.held sink.old) ⊎ IfSome (S.left source.old) (λ input. SoFarRuns (settings_with ask.pages ask.patience ask.format) input (Appends (K.held sink.old) (K.held sink.new)))) }
-    ensures no_memory_writes_whole_answers { IfOk words (λ words. AskToWire (map string_bytes words.items) → result ≡ Status.NoMemory
-        → IfSome (S.left source.old) (λ bytes. StopsAmong bytes (WroteWhole (K.held sink.old) (K.held sink.new)))) }
-    ensures no_memory_writes_whole_turns { IfOk words (λ words. result ≡ Status.NoMemory → ServedInPart (map string_bytes words.items) (S.left source.old) (K.held sink.old) (K.held sink.new)) }
+    ensures read_fault_writes_nothing { IfOk words (λ words.
+        ¬ AskToWire (map string_bytes words.items))
+        → IfOk words (λ words. ¬ AskToServe (map string_bytes words.items))
+        → result ≡ Status.ReadFault → K.held sink.new ≡ K.held sink.old }
+    ensures read_fault_writes_answers { IfOk words (λ words.
+        AskToWire (map string_bytes words.items) → result ≡ Status.ReadFault
+        → IfSome (S.left source.old) (λ bytes.
+        StopsBetween bytes (Appends (K.held sink.old) (K.held sink.new)))) }
+    ensures read_fault_writes_what_was_told { IfOk words (λ words.
+        result ≡ Status.ReadFault
+        → ServedFirst (map string_bytes words.items) (S.left source.old) (K.held sink.old)
+        (K.held sink.new)) }
+    ensures no_memory_writes_nothing { IfOk words (λ words.
+        ¬ AskToRunLive (map string_bytes words.items))
+        → IfOk words (λ words. ¬ AskToWire (map string_bytes words.items))
+        → IfOk words (λ words. ¬ AskToServe (map string_bytes words.items))
+        → result ≡ Status.NoMemory → K.held sink.new ≡ K.held sink.old }
+    ensures no_memory_writes_first_lines { IfOk words (λ words.
+        (ask : AskToRunLive (map string_bytes words.items)) → result ≡ Status.NoMemory
+        → (K.held sink.new ≡ K.held sink.old)
+        ⊎ IfSome (S.left source.old) (λ input.
+        SoFarRuns (settings_with ask.pages ask.patience ask.format) input
+        (Appends (K.held sink.old) (K.held sink.new)))) }
+    ensures no_memory_writes_whole_answers { IfOk words (λ words.
+        AskToWire (map string_bytes words.items) → result ≡ Status.NoMemory
+        → IfSome (S.left source.old) (λ bytes.
+        StopsAmong bytes (WroteWhole (K.held sink.old) (K.held sink.new)))) }
+    ensures no_memory_writes_whole_turns { IfOk words (λ words.
+        result ≡ Status.NoMemory
+        → ServedInPart (map string_bytes words.items) (S.left source.old) (K.held sink.old)
+        (K.held sink.new)) }
     ensures no_memory { words ≡ Err NoWords.Memory → result ≡ Status.NoMemory }
     ensures not_text { words ≡ Err NoWords.NotText → result ≡ Status.BadWords }
-    ensures right_words { IfOk words (λ words. result ≡ Status.BadWords → AreNoCommand (map string_bytes words.items)) }
-    ensures other_words { IfOk words (λ words. AreNoCommand (map string_bytes words.items) → result ≢ Status.NoMemory → result ≡ Status.BadWords) }
+    ensures right_words { IfOk words (λ words.
+        result ≡ Status.BadWords → AreNoCommand (map string_bytes words.items)) }
+    ensures other_words { IfOk words (λ words.
+        AreNoCommand (map string_bytes words.items) → result ≢ Status.NoMemory
+        → result ≡ Status.BadWords) }
 {
     match words {
         Ok(words) => {
-            let status = run_words(rt, alloc, hashes, words.as_slice(), source, sink);
+            let status = run_words(means, words.as_slice(), source, sink);
             drop(words);
             status
         }
@@ -125,50 +216,92 @@ fn status_of<S: Source, K: Sink + Send, R: Threads + Wait + Clock + Sync>(
 
 // How a run of words that are there ends.
 fn run_words<S: Source, K: Sink + Send, R: Threads + Wait + Clock + Sync>(
-    rt: &R,
-    alloc: Global,
-    hashes: Seed,
+    means: &Means<'_, R>,
     words: &[String],
     source: &mut S,
     sink: &mut K,
 ) -> Status
-    ensures done { result ≡ Status.Done → Performs (map string_bytes words.now) (S.left source.old) (Appends (K.held sink.old) (K.held sink.new)) }
-    ensures bad_scenario { (fault : ScenarioFault) → result ≡ Status.BadScenario fault → IfSome (S.left source.old) (λ input. IsFaulty input fault) }
-    ensures bad_wire { (fault : WireFault) → result ≡ Status.BadWire fault → AskToWire (map string_bytes words.now)
-        × IfSome (S.left source.old) (λ bytes. BreaksOff bytes fault (Appends (K.held sink.old) (K.held sink.new))) }
-    ensures bad_frame { (fault : FrameFault) → result ≡ Status.BadFrame fault → ServesUpTo (map string_bytes words.now) fault (S.left source.old) (K.held sink.old) (K.held sink.new) }
-    ensures illegal { (line : ℕ) → result ≡ Status.Illegal line → (ask : AskToCheck (map string_bytes words.now))
-        × IfSome (S.left source.old) (SaysIllegal (asked_settings ask) (K.held sink.old) (K.held sink.new)) }
-    ensures no_output { result ≡ Status.NoOutput → AskToCheck (map string_bytes words.now) × IfSome (S.left source.old) HasNoOutput }
-    ensures check_too_large { result ≡ Status.CheckTooLarge → AskToCheck (map string_bytes words.now) × IfSome (S.left source.old) IsTooLarge }
-    ensures read_fault { result ≡ Status.ReadFault → Rose (S.faults source.old) (S.faults source.new) }
-    ensures read_fault_where_due { ¬ AskToServe (map string_bytes words.now) → S.faults source.old < S.faults source.new → result ≡ Status.ReadFault }
-    ensures read_fault_where_served { AskToServe (map string_bytes words.now) → S.faults source.old < S.faults source.new → (result ≡ Status.ReadFault) ⊎ (result ≡ Status.WriteFault) ⊎ (result ≡ Status.NoMemory) }
-    ensures write_fault { result ≡ Status.WriteFault → Rose (K.faults sink.old) (K.faults sink.new) }
-    ensures write_fault_where_due { K.faults sink.old < K.faults sink.new → result ≡ Status.WriteFault }
-    ensures write_fault_writes_a_prefix { result ≡ Status.WriteFault → PerformsInPart (map string_bytes words.now) (S.left source.old) (AppendsPrefix (K.held sink.old) (K.held sink.new)) }
+    ensures done { result ≡ Status.Done
+        → Performs (map string_bytes words.now) (S.left source.old)
+        (Appends (K.held sink.old) (K.held sink.new)) }
+    ensures bad_scenario { (fault : ScenarioFault) → result ≡ Status.BadScenario fault
+        → IfSome (S.left source.old) (λ input. IsFaulty input fault) }
+    ensures bad_wire { (fault : WireFault) → result ≡ Status.BadWire fault
+        → AskToWire (map string_bytes words.now)
+        × IfSome (S.left source.old) (λ bytes.
+        BreaksOff bytes fault (Appends (K.held sink.old) (K.held sink.new))) }
+    ensures bad_frame { (fault : FrameFault) → result ≡ Status.BadFrame fault
+        → ServesUpTo (map string_bytes words.now) fault (S.left source.old) (K.held sink.old)
+        (K.held sink.new) }
+    ensures illegal { (line : ℕ) → result ≡ Status.Illegal line
+        → (ask : AskToCheck (map string_bytes words.now))
+        × IfSome (S.left source.old)
+        (SaysIllegal (asked_settings ask) (K.held sink.old) (K.held sink.new)) }
+    ensures no_output { result ≡ Status.NoOutput
+        → AskToCheck (map string_bytes words.now) × IfSome (S.left source.old) HasNoOutput }
+    ensures check_too_large { result ≡ Status.CheckTooLarge
+        → AskToCheck (map string_bytes words.now) × IfSome (S.left source.old) IsTooLarge }
+    ensures read_fault { result ≡ Status.ReadFault
+        → Rose (S.faults source.old) (S.faults source.new) }
+    ensures read_fault_where_due { ¬ AskToServe (map string_bytes words.now)
+        → S.faults source.old < S.faults source.new → result ≡ Status.ReadFault }
+    ensures read_fault_where_served { AskToServe (map string_bytes words.now)
+        → S.faults source.old < S.faults source.new
+        → (result ≡ Status.ReadFault) ⊎ (result ≡ Status.WriteFault) ⊎ (result ≡ Status.NoMemory) }
+    ensures write_fault { result ≡ Status.WriteFault
+        → Rose (K.faults sink.old) (K.faults sink.new) }
+    ensures write_fault_where_due { K.faults sink.old < K.faults sink.new
+        → result ≡ Status.WriteFault }
+    ensures write_fault_writes_a_prefix { result ≡ Status.WriteFault
+        → PerformsInPart (map string_bytes words.now) (S.left source.old)
+        (AppendsPrefix (K.held sink.old) (K.held sink.new)) }
     ensures refused_writes_nothing { IsRefused result → K.held sink.new ≡ K.held sink.old }
-    ensures read_fault_writes_nothing { ¬ AskToWire (map string_bytes words.now) → ¬ AskToServe (map string_bytes words.now) → result ≡ Status.ReadFault → K.held sink.new ≡ K.held sink.old }
-    ensures read_fault_writes_answers { AskToWire (map string_bytes words.now) → result ≡ Status.ReadFault
-        → IfSome (S.left source.old) (λ bytes. StopsBetween bytes (Appends (K.held sink.old) (K.held sink.new))) }
-    ensures read_fault_writes_what_was_told { result ≡ Status.ReadFault → ServedFirst (map string_bytes words.now) (S.left source.old) (K.held sink.old) (K.held sink.new) }
-    ensures no_memory_writes_nothing { ¬ AskToRunLive (map string_bytes words.now) → ¬ AskToWire (map string_bytes words.now) → ¬ AskToServe (map string_bytes words.now) → result ≡ Status.NoMemory → K.held sink.new ≡ K.held sink.old }
-    ensures no_memory_writes_first_lines { (ask : AskToRunLive (map string_bytes words.now)) → result ≡ Status.NoMemory
-        → (K.held sink.new ≡ K.held sink.old) ⊎ IfSome (S.left source.old) (λ input. SoFarRuns (settings_with ask.pages ask.patience ask.format) input (Appends (K.held sink.old) (K.held sink.new))) }
-    ensures no_memory_writes_whole_answers { AskToWire (map string_bytes words.now) → result ≡ Status.NoMemory
-        → IfSome (S.left source.old) (λ bytes. StopsAmong bytes (WroteWhole (K.held sink.old) (K.held sink.new))) }
-    ensures no_memory_writes_whole_turns { result ≡ Status.NoMemory → ServedInPart (map string_bytes words.now) (S.left source.old) (K.held sink.old) (K.held sink.new) }
+    ensures read_fault_writes_nothing { ¬ AskToWire (map string_bytes words.now)
+        → ¬ AskToServe (map string_bytes words.now) → result ≡ Status.ReadFault
+        → K.held sink.new ≡ K.held sink.old }
+    ensures read_fault_writes_answers { AskToWire (map string_bytes words.now)
+        → result ≡ Status.ReadFault
+        → IfSome (S.left source.old) (λ bytes.
+        StopsBetween bytes (Appends (K.held sink.old) (K.held sink.new))) }
+    ensures read_fault_writes_what_was_told { result ≡ Status.ReadFault
+        → ServedFirst (map string_bytes words.now) (S.left source.old) (K.held sink.old)
+        (K.held sink.new) }
+    ensures no_memory_writes_nothing { ¬ AskToRunLive (map string_bytes words.now)
+        → ¬ AskToWire (map string_bytes words.now) → ¬ AskToServe (map string_bytes words.now)
+        → result ≡ Status.NoMemory → K.held sink.new ≡ K.held sink.old }
+    ensures no_memory_writes_first_lines { (ask : AskToRunLive (map string_bytes words.now))
+        → result ≡ Status.NoMemory
+        → (K.held sink.new ≡ K.held sink.old)
+        ⊎ IfSome (S.left source.old) (λ input.
+        SoFarRuns (settings_with ask.pages ask.patience ask.format) input
+        (Appends (K.held sink.old) (K.held sink.new))) }
+    ensures no_memory_writes_whole_answers { AskToWire (map string_bytes words.now)
+        → result ≡ Status.NoMemory
+        → IfSome (S.left source.old) (λ bytes.
+        StopsAmong bytes (WroteWhole (K.held sink.old) (K.held sink.new))) }
+    ensures no_memory_writes_whole_turns { result ≡ Status.NoMemory
+        → ServedInPart (map string_bytes words.now) (S.left source.old) (K.held sink.old)
+        (K.held sink.new) }
     ensures right_words { result ≡ Status.BadWords → AreNoCommand (map string_bytes words.now) }
-    ensures other_words { AreNoCommand (map string_bytes words.now) → result ≢ Status.NoMemory → result ≡ Status.BadWords }
+    ensures other_words { AreNoCommand (map string_bytes words.now) → result ≢ Status.NoMemory
+        → result ≡ Status.BadWords }
 {
-    match borrowed(alloc, words) {
-        Ok(words) => run_notify(rt, alloc, hashes, words.as_slice(), source, sink),
+    match borrowed(means.alloc, words) {
+        Ok(words) => run_notify(
+            means.rt,
+            means.alloc,
+            means.hashes,
+            words.as_slice(),
+            source,
+            sink,
+        ),
         Err(AllocError) => Status::NoMemory,
     }
 }
 
 fn borrowed(alloc: Global, words: &[String]) -> Result<Vec<&str>, AllocError>
-    ensures { IfOk result (λ texts. map (λ text. text.now) texts.items ≡ map string_bytes words.now) }
+    ensures { IfOk result (λ texts.
+        map (λ text. text.now) texts.items ≡ map string_bytes words.now) }
 {
     let mut texts = Vec::new(alloc);
     for word in words {

@@ -8,7 +8,7 @@ use pgn_frames::FrameFault;
 use pgn_language::ScenarioFault;
 use pgn_memory::{MemSink, MemSource};
 use pgn_queries::WireFault;
-use pgn_run::Status;
+use pgn_run::{Means, Status};
 use std::alloc::{AllocError, Global};
 use std::hash::{BuildHasher, Hasher};
 use std::io;
@@ -231,7 +231,12 @@ fn code_of<S: Source, K: Sink + Send, E: Sink, R: Threads + Wait + Clock + Sync>
     sink: &mut K,
     errors: &mut E,
 ) -> u8 {
-    program(rt, alloc, Seed::fixed(), words, source, sink, errors)
+    let means = Means {
+        rt,
+        alloc,
+        hashes: Seed::fixed(),
+    };
+    program(&means, words, source, sink, errors)
 }
 
 #[test]

@@ -5,7 +5,7 @@ use Rattle.std.proofs.lemmas.Grind.{flat_map-append}
 use Rattle.std.proofs.lemmas.List.Elements.{All-nil, All-append, All-weaker}
 use Rattle.std.specs.declared.alloc.AllocError.{AllocError}
 use Rattle.pgn_base.specs.declared.source.Failed.{Failed}
-use Rattle.pgn_base.specs.Outside.{HasCause, Rose, Writes}
+use Rattle.pgn_base.specs.Outside.{HasCause, Rose}
 use Rattle.pgn_hub.specs.declared.known.Known.{Known}
 use Rattle.pgn_hub.specs.Shape.{Shape}
 use Rattle.pgn_outlet.specs.declared.came.Came.{Came}
@@ -58,6 +58,7 @@ put-nothing most seat inbox caller h = record {
   put = h.unused;
 }
 
+-- a reader that has not begun has read nothing, as one that memory did not suffice for
 pub nothing-read : {S : Type 0} (left : S → Option (List ℕ)) (faults : S → ℕ) (inboxes : List (Outlet (Option Ask))) (callers : List Caller) (source : S) → HasReadBy left faults inboxes callers callers source source (Err none.Memory)
 nothing-read left faults inboxes callers source = record {
   read = λ most may. record {
@@ -84,6 +85,7 @@ read-by left faults inboxes old new source source_now res done first some count 
     at most (Err none.Failed) d f m = f refl
     at most (Err none.Memory) d f m = m refl
 
+-- what a reader has read that has not begun
 pub ruleset read_laws = (nothing-read)
 
 -- Nothing was served.
@@ -107,6 +109,7 @@ same-clients : {P : Type 0} (desks : List (Desk P)) → AreSameClients desks des
 same-clients [] = tt
 same-clients (desk ∷ desks) = (record { section = refl; plan = refl; patience = refl }, same-clients desks)
 
+-- desks that have not begun have served nothing, whatever the refusal was
 pub nothing-served : {P A E : Type 0} (is_own : P → Type 0) (shape : Shape) (known : P → Known) (inboxes : List (Outlet (Option Ask))) (desks : List (Desk P)) (v : Hand Saying) (e : E) → MayServe is_own shape known inboxes desks v
     → HaveServed {A = A} is_own shape known inboxes desks desks v v (Err e)
 nothing-served is_own shape known inboxes desks v e may = record {
@@ -117,6 +120,7 @@ nothing-served is_own shape known inboxes desks v e may = record {
   others = λ m out. ap (λ (sent : List (Came Saying)). what_of m sent) may.unused;
 }
 
+-- what desks have done that have not begun
 pub ruleset served_laws = (nothing-served)
 
 -- What is written.
@@ -138,9 +142,8 @@ module _ {S : Type 0} (held : S → Option (List ℕ)) (faults : S → ℕ) wher
   }
 
   -- what is left once all was told
-  pub rest-written : (v t c w : Hand Saying) (s₀ s₁ s₂ : S) (o₀ o₁ o₂ : Out) (over : Bool) → c ≡ taken_over v t → Wrote held faults c w s₀ o₀ s₁ o₁ → HasAll w → Puts held faults s₁ o₁ s₂ o₂ (cond over over_frame [])
-      → OnOk o₂.so_far (o₂.kept ≡ []) → HasWrittenRest held faults v t o₀ s₀ s₂ over o₂.so_far
-  rest-written v t c w s₀ s₁ s₂ o₀ o₁ o₂ over closed f has puts sent =
+  pub rest-written : (v t c w : Hand Saying) (s₀ s₁ : S) (o₀ o₁ : Out) → c ≡ taken_over v t → Wrote held faults c w s₀ o₀ s₁ o₁ → HasAll w → OnOk o₁.so_far (o₁.kept ≡ []) → HasWrittenRest held faults v t o₀ s₀ s₁ o₁
+  rest-written v t c w s₀ s₁ o₀ o₁ closed f has sent =
       let w_is : w ≡ record v { takes = true; got = t.got ++ f.more } = f.got ∙ ap (λ (x : Hand Saying). let y : Hand Saying = record x { got = x.got ++ f.more } in y) closed in
       record {
         more = f.more;
@@ -148,17 +151,16 @@ module _ {S : Type 0} (held : S → Option (List ℕ)) (faults : S → ℕ) wher
             sym (ap (λ (x : Hand Saying). what_of seat x.got) w_is) ∙ has seat (subst (λ (x : Hand Saying). MayPush x seat) (sym w_is) may) ∙ ap (λ (x : Hand Saying). what_of seat x.sent) w_is;
         outs = f.frames;
         carry = f.carry;
-        out_now = o₂;
-        puts = Puts-trans f.puts puts;
+        puts = f.puts;
         sent = sent;
-        is = refl;
       }
 
-  -- what all writes come to
-  pub told-by : {P : Type 0} (is_own : P → Type 0) (shape : Shape) (known : P → Known) (inboxes : List (Outlet (Option Ask))) (old new : List (Desk P)) (u v t₀ t₁ : Hand Saying) (s₀ s₁ s₂ : S) (o₀ o₁ : Out) (over : Bool)
-      (so_far : Result Unit Failed) (served : Result Unit AllocError) → u ≡ sender → HaveServed is_own shape known inboxes old new u v served → t₀ ≡ taker → Wrote held faults t₀ t₁ s₀ o₀ s₁ o₁ → HasWrittenRest held faults v t₁ o₁ s₁ s₂ over so_far
-      → o₀.kept ≡ [] → o₀.so_far ≡ Ok tt → (over ≡ true → OnOk served ⊥) → HasToldBy is_own shape known inboxes old new held faults s₀ s₂ (so_far, served)
-  told-by is_own shape known inboxes old new u v t₀ t₁ s₀ s₁ s₂ o₀ o₁ over so_far served sends ran takes f r none fine refused = record {
+  -- what all writes come to: those beside the desks, those of the rest, and of what is said at the end
+  pub told-by : {P : Type 0} (is_own : P → Type 0) (shape : Shape) (known : P → Known) (inboxes : List (Outlet (Option Ask))) (old new : List (Desk P)) (u v t₀ t₁ : Hand Saying) (s₀ s₁ s₂ s₃ : S) (o₀ o₁ o₂ o₃ : Out) (over : Bool)
+      (served : Result Unit AllocError) → u ≡ sender → HaveServed is_own shape known inboxes old new u v served → t₀ ≡ taker → Wrote held faults t₀ t₁ s₀ o₀ s₁ o₁ → HasWrittenRest held faults v t₁ o₁ s₁ s₂ o₂
+      → Puts held faults s₂ o₂ s₃ o₃ (cond over over_frame []) → OnOk o₃.so_far (o₃.kept ≡ []) → o₀.kept ≡ [] → o₀.so_far ≡ Ok tt → (over ≡ true → OnOk served ⊥)
+      → HasToldBy is_own shape known inboxes old new held faults s₀ s₃ (o₃.so_far, served)
+  told-by is_own shape known inboxes old new u v t₀ t₁ s₀ s₁ s₂ s₃ o₀ o₁ o₂ o₃ over served sends ran takes f r said sent none fine refused = record {
     after = v;
     ran = subst (λ (x : Hand Saying). HaveServed is_own shape known inboxes old new x v served) sends ran;
     outs = f.frames ++ r.outs;
@@ -172,19 +174,18 @@ module _ {S : Type 0} (held : S → Option (List ℕ)) (faults : S → ℕ) wher
     };
     over = over;
     refused = refused;
-    writes = subst (λ (x : Result Unit Failed). Writes (held s₀) (held s₂) x (with_over over (f.frames ++ r.outs))) (sym r.is) (Writes-from_Puts none fine puts (Puts-none held faults s₂ r.out_now) r.sent);
-    cause = subst (λ (x : Result Unit Failed). HasCause (faults s₀) (faults s₂) x) (sym r.is)
-        (puts.cause (faults s₀) (subst (λ (x : Result Unit Failed). HasCause (faults s₀) (faults s₀) x) (sym fine) (record { later = omega arith; failed = tt; passed = refl })));
+    writes = Writes-from_Puts none fine puts (Puts-none held faults s₃ o₃) sent;
+    cause = puts.cause (faults s₀) (subst (λ (x : Result Unit Failed). HasCause (faults s₀) (faults s₀) x) (sym fine) (record { later = omega arith; failed = tt; passed = refl }));
   }
     where
       got : t₁.got ≡ f.more
       got = ap (λ (x : Hand Saying). x.got) f.got ∙ ap (λ (x : Hand Saying). x.got ++ f.more) takes
 
-      text : flat_map frame_bytes f.frames ++ with_over over r.outs ≡ with_over over (f.frames ++ r.outs)
+      text : flat_map frame_bytes f.frames ++ (flat_map frame_bytes r.outs ++ cond over over_frame []) ≡ with_over over (f.frames ++ r.outs)
       text = sym (append_assoc (flat_map frame_bytes f.frames) (flat_map frame_bytes r.outs) (cond over over_frame [])) ∙ ap (λ (l : List ℕ). l ++ cond over over_frame []) (sym (flat_map-append frame_bytes f.frames r.outs))
 
-      puts : Puts held faults s₀ o₀ s₂ r.out_now (with_over over (f.frames ++ r.outs))
-      puts = Puts-same {held = held} {faults = faults} text (Puts-trans f.puts r.puts)
+      puts : Puts held faults s₀ o₀ s₃ o₃ (with_over over (f.frames ++ r.outs))
+      puts = Puts-same {held = held} {faults = faults} text (Puts-trans f.puts (Puts-trans r.puts said))
 
 none-written : (held : Option (List ℕ)) → Appends held held []
 none-written None = tt
@@ -204,6 +205,8 @@ told-nothing held faults is_own shape known inboxes desks sink e may = record {
   cause = record { later = omega arith; failed = tt; passed = refl };
 }
 
+-- what a writer has written that has not begun
 pub ruleset wrote_laws = (wrote-none)
 
+-- what a service has told that has no outbox
 pub ruleset told_laws = (told-nothing)

@@ -24,6 +24,7 @@ no-run words seed sessions notes e other = let bad : Some (Drill seed sessions n
 pub none-runs : (words : List (List ℕ)) → AreNoCommand words → AskToRun words → ⊥
 none-runs words none other = no-other words (Run other.pages other.patience other.format other.live) other.asks none
 
+-- words that are no command ask for no drill
 pub none-drills : (words : List (List ℕ)) → AreNoCommand words → AskToDrill words → ⊥
 none-drills words none other = no-other words (Drill other.seed other.sessions other.notes) other.asks none
 
@@ -47,15 +48,19 @@ shows-once words pages patience format false once e = refl
 pub run-no_wire : (words : List (List ℕ)) (pages patience : ℕ) (format : Format) (live : Bool) → AskFor words (Run pages patience format live) → AskToWire words → ⊥
 run-no_wire words pages patience format live e other = let bad : Some (Run pages patience format live) ≡ Some Wire = sym e ∙ other in cc
 
+-- words that ask for a drill do not ask for `wire`
 pub drill-no_wire : (words : List (List ℕ)) (seed sessions notes : ℕ) → AskFor words (Drill seed sessions notes) → AskToWire words → ⊥
 drill-no_wire words seed sessions notes e other = let bad : Some (Drill seed sessions notes) ≡ Some Wire = sym e ∙ other in cc
 
+-- words that ask for `wire` do not ask for a run
 pub wire-no_run : (words : List (List ℕ)) → AskToWire words → AskToRun words → ⊥
 wire-no_run words e other = run-no_wire words other.pages other.patience other.format other.live other.asks e
 
+-- nor for a drill
 pub wire-no_drill : (words : List (List ℕ)) → AskToWire words → AskToDrill words → ⊥
 wire-no_drill words e other = drill-no_wire words other.seed other.sessions other.notes other.asks e
 
+-- words that are no command do not ask for `wire`
 pub none-wires : (words : List (List ℕ)) → AreNoCommand words → AskToWire words → ⊥
 none-wires words none other = no-other words Wire other none
 
@@ -64,23 +69,29 @@ pub check-no_run : (words : List (List ℕ)) (pages patience : ℕ) (format : Fo
 check-no_run words pages patience format e other =
     let bad : Some (Check pages patience format) ≡ Some (Run other.pages other.patience other.format other.live) = sym e ∙ other.asks in cc
 
+-- words that ask for a check do not ask for a drill
 pub check-no_drill : (words : List (List ℕ)) (pages patience : ℕ) (format : Format) → AskFor words (Check pages patience format) → AskToDrill words → ⊥
 check-no_drill words pages patience format e other = let bad : Some (Check pages patience format) ≡ Some (Drill other.seed other.sessions other.notes) = sym e ∙ other.asks in cc
 
+-- nor for `wire`
 pub check-no_wire : (words : List (List ℕ)) (pages patience : ℕ) (format : Format) → AskFor words (Check pages patience format) → AskToWire words → ⊥
 check-no_wire words pages patience format e other = let bad : Some (Check pages patience format) ≡ Some Wire = sym e ∙ other in cc
 
+-- words that ask for a run do not ask for a check
 pub run-no_check : (words : List (List ℕ)) (pages patience : ℕ) (format : Format) (live : Bool) → AskFor words (Run pages patience format live) → AskToCheck words → ⊥
 run-no_check words pages patience format live e other =
     check-no_run words other.pages other.patience other.format other.asks (record { pages = pages; patience = patience; format = format; live = live; asks = e })
 
+-- words that ask for a drill do not ask for a check
 pub drill-no_check : (words : List (List ℕ)) (seed sessions notes : ℕ) → AskFor words (Drill seed sessions notes) → AskToCheck words → ⊥
 drill-no_check words seed sessions notes e other =
     check-no_drill words other.pages other.patience other.format other.asks (record { seed = seed; sessions = sessions; notes = notes; asks = e })
 
+-- words that ask for `wire` do not ask for a check
 pub wire-no_check : (words : List (List ℕ)) → AskToWire words → AskToCheck words → ⊥
 wire-no_check words e other = check-no_wire words other.pages other.patience other.format other.asks e
 
+-- words that are no command do not ask for a check
 pub none-checks : (words : List (List ℕ)) → AreNoCommand words → AskToCheck words → ⊥
 none-checks words none other = no-other words (Check other.pages other.patience other.format) other.asks none
 
@@ -98,27 +109,35 @@ same-check words pages patience format ask e =
 pub serve-no_run : (words : List (List ℕ)) (seats : ℕ) → AskFor words (Serve seats) → AskToRun words → ⊥
 serve-no_run words seats e other = let bad : Some (Serve seats) ≡ Some (Run other.pages other.patience other.format other.live) = sym e ∙ other.asks in cc
 
+-- words that ask for a service do not ask for a drill
 pub serve-no_drill : (words : List (List ℕ)) (seats : ℕ) → AskFor words (Serve seats) → AskToDrill words → ⊥
 serve-no_drill words seats e other = let bad : Some (Serve seats) ≡ Some (Drill other.seed other.sessions other.notes) = sym e ∙ other.asks in cc
 
+-- nor for `wire`
 pub serve-no_wire : (words : List (List ℕ)) (seats : ℕ) → AskFor words (Serve seats) → AskToWire words → ⊥
 serve-no_wire words seats e other = let bad : Some (Serve seats) ≡ Some Wire = sym e ∙ other in cc
 
+-- nor for a check
 pub serve-no_check : (words : List (List ℕ)) (seats : ℕ) → AskFor words (Serve seats) → AskToCheck words → ⊥
 serve-no_check words seats e other = let bad : Some (Serve seats) ≡ Some (Check other.pages other.patience other.format) = sym e ∙ other.asks in cc
 
+-- words that ask for a run do not ask for a service
 pub run-no_serve : (words : List (List ℕ)) (pages patience : ℕ) (format : Format) (live : Bool) → AskFor words (Run pages patience format live) → AskToServe words → ⊥
 run-no_serve words pages patience format live e other = serve-no_run words other.seats other.asks (record { pages = pages; patience = patience; format = format; live = live; asks = e })
 
+-- words that ask for a drill do not ask for a service
 pub drill-no_serve : (words : List (List ℕ)) (seed sessions notes : ℕ) → AskFor words (Drill seed sessions notes) → AskToServe words → ⊥
 drill-no_serve words seed sessions notes e other = serve-no_drill words other.seats other.asks (record { seed = seed; sessions = sessions; notes = notes; asks = e })
 
+-- words that ask for `wire` do not ask for a service
 pub wire-no_serve : (words : List (List ℕ)) → AskToWire words → AskToServe words → ⊥
 wire-no_serve words e other = serve-no_wire words other.seats other.asks e
 
+-- words that ask for a check do not ask for a service
 pub check-no_serve : (words : List (List ℕ)) (pages patience : ℕ) (format : Format) → AskFor words (Check pages patience format) → AskToServe words → ⊥
 check-no_serve words pages patience format e other = serve-no_check words other.seats other.asks (record { pages = pages; patience = patience; format = format; asks = e })
 
+-- words that are no command do not ask for a service
 pub none-serves : (words : List (List ℕ)) → AreNoCommand words → AskToServe words → ⊥
 none-serves words none other = no-other words (Serve other.seats) other.asks none
 

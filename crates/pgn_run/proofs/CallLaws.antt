@@ -16,7 +16,7 @@ use Rattle.pgn_frames.specs.declared.frame_fault.FrameFault.{FrameFault}
 use Rattle.std.specs.Io.KnownBytes.{Appends, Consumes, IsAtEnd}
 use Rattle.pgn_base.specs.Outside.{AppendsPrefix, Rose}
 use Rattle.pgn_base.specs.declared.limits.TheConstants.{INPUT_BYTES_MAX}
-use Rattle.pgn_run.specs.Run.{AskToCheck, AskToDrill, AskToRun, AskToRunLive, AskToServe, AskToWire, EndsIn, HasFrames, HasRead, IsOfRun, IsOfServe, IsOfWire, Performs, PerformsInPart, SoFarRuns, asked_settings, code_of, settings_with, shows_if}
+use Rattle.pgn_run.specs.Run.{AskToCheck, AskToDrill, AskToRun, AskToRunLive, AskToServe, AskToWire, EndsIn, HasFrames, HasRead, IsOfRun, IsOfServe, IsOfWire, Performs, PerformsInPart, SoFarRuns, asked_settings, settings_with, shows_if}
 use Rattle.pgn_run.specs.declared.status.Status.{Status}
 use Rattle.pgn_run.specs.declared.status.Status.TheVariants.{Done, BadWords, BadScenario, ReadFault, WriteFault, NoMemory, BadWire, Illegal, NoOutput, CheckTooLarge, BadFrame}
 use Rattle.pgn_run.specs.declared.print.Print.TheVariants.{Text}
@@ -37,9 +37,20 @@ use Rattle.pgn_run.proofs.CheckingLaws.{answered-check, check-fault, check-large
 no-rise : {S : Type 0} (faults : S → ℕ) (old new : S) → new ≡ old → faults old < faults new → ⊥
 no-rise faults old new same rose = let e : faults new ≡ faults old = ap faults same in omega (arith, rose, e)
 
--- two answers that are one have one exit status
-same-code : {status a b : Status} → status ≡ a → status ≡ b → code_of a ≡ code_of b
-same-code is e = ap code_of (sym is ∙ e)
+-- no other status is that of bad words, or of want of memory
+abbrev IsBadWords : Status → Type 0
+IsBadWords BadWords = Unit {0}
+IsBadWords status = ⊥
+
+abbrev IsNoMemory : Status → Type 0
+IsNoMemory NoMemory = Unit {0}
+IsNoMemory status = ⊥
+
+bad-words-alone : {status other : Status} → status ≡ BadWords → status ≡ other → IsBadWords other
+bad-words-alone is e = subst IsBadWords (sym is ∙ e) tt
+
+no-memory-alone : {status other : Status} → status ≡ NoMemory → status ≡ other → IsNoMemory other
+no-memory-alone is e = subst IsNoMemory (sym is ∙ e) tt
 
 module _ {S K : Type 0} (left : S → Option (List ℕ)) (faults : S → ℕ) (held : K → Option (List ℕ)) (sink_faults : K → ℕ) (words : List (List ℕ)) (source source_now : S) (sink sink_now : K) (status : Status) where
   -- what the call says by its clause done
@@ -54,8 +65,8 @@ module _ {S K : Type 0} (left : S → Option (List ℕ)) (faults : S → ℕ) (h
   done-said (Ok Wire) asks bad h = λ e. record { asked = Wire; asks = asks; done = done-wire (left source) (held sink) (held sink_now) status h.answers e }
   done-said (Ok (Serve seats)) asks bad h = λ e. record { asked = Serve seats; asks = asks; done = done-serve seats (left source) (held sink) (held sink_now) status h.answers e }
   done-said (Ok (Check pages patience format)) asks bad h = λ e. record { asked = Check pages patience format; asks = asks; done = answered-check (settings_with pages patience format) (left source) (held sink) (held sink_now) _ _ status h.answers Done e }
-  done-said (Err words_fault.BadWords) asks bad h = λ e. absurd (omega (arith, same-code h.is e))
-  done-said (Err words_fault.Memory) asks bad h = λ e. absurd (omega (arith, same-code h.is e))
+  done-said (Err words_fault.BadWords) asks bad h = λ e. absurd (bad-words-alone h.is e)
+  done-said (Err words_fault.Memory) asks bad h = λ e. absurd (no-memory-alone h.is e)
 
   -- what the call says by its clause done_reads_all
   pub done_reads_all-said : (asked : Result Asked WordsFault) → IfOk asked (λ a. AskFor words a) → (asked ≡ Err words_fault.BadWords → AreNoCommand words) → Performed left faults held sink_faults asked source source_now sink sink_now status
@@ -66,8 +77,8 @@ module _ {S K : Type 0} (left : S → Option (List ℕ)) (faults : S → ℕ) (h
   done_reads_all-said (Ok Wire) asks bad h = λ ask. absurd (wire-no_run words asks ask)
   done_reads_all-said (Ok (Serve seats)) asks bad h = λ ask. absurd (serve-no_run words seats asks ask)
   done_reads_all-said (Ok (Check pages patience format)) asks bad h = λ ask. absurd (check-no_run words pages patience format asks ask)
-  done_reads_all-said (Err words_fault.BadWords) asks bad h = λ ask e. absurd (omega (arith, same-code h.is e))
-  done_reads_all-said (Err words_fault.Memory) asks bad h = λ ask e. absurd (omega (arith, same-code h.is e))
+  done_reads_all-said (Err words_fault.BadWords) asks bad h = λ ask e. absurd (bad-words-alone h.is e)
+  done_reads_all-said (Err words_fault.Memory) asks bad h = λ ask e. absurd (no-memory-alone h.is e)
 
   -- what the call says by its clause bad_words
   pub bad_words-said : (asked : Result Asked WordsFault) → IfOk asked (λ a. AskFor words a) → (asked ≡ Err words_fault.BadWords → AreNoCommand words) → Performed left faults held sink_faults asked source source_now sink sink_now status
@@ -78,7 +89,7 @@ module _ {S K : Type 0} (left : S → Option (List ℕ)) (faults : S → ℕ) (h
   bad_words-said (Ok (Serve seats)) asks bad h = λ e. absurd (subst IsOfServe e h.own)
   bad_words-said (Ok (Check pages patience format)) asks bad h = λ e. absurd (subst IsOfCheck e h.own)
   bad_words-said (Err words_fault.BadWords) asks bad h = λ e. bad refl
-  bad_words-said (Err words_fault.Memory) asks bad h = λ e. absurd (omega (arith, same-code h.is e))
+  bad_words-said (Err words_fault.Memory) asks bad h = λ e. absurd (no-memory-alone h.is e)
 
   -- what the call says by its clause bad_words_where_due
   pub bad_words_where_due-said : (asked : Result Asked WordsFault) → IfOk asked (λ a. AskFor words a) → (asked ≡ Err words_fault.BadWords → AreNoCommand words) → Performed left faults held sink_faults asked source source_now sink sink_now status
@@ -124,8 +135,8 @@ module _ {S K : Type 0} (left : S → Option (List ℕ)) (faults : S → ℕ) (h
   bad_scenario-said (Ok Wire) asks bad h = λ fault e. absurd (subst IsOfWire e h.own)
   bad_scenario-said (Ok (Serve seats)) asks bad h = λ fault e. absurd (subst IsOfServe e h.own)
   bad_scenario-said (Ok (Check pages patience format)) asks bad h = λ fault e. inr (record { pages = pages; patience = patience; format = format; asks = asks }, check-fault (settings_with pages patience format) (left source) (held sink) (held sink_now) _ _ status h.answers fault e)
-  bad_scenario-said (Err words_fault.BadWords) asks bad h = λ fault e. absurd (omega (arith, same-code h.is e))
-  bad_scenario-said (Err words_fault.Memory) asks bad h = λ fault e. absurd (omega (arith, same-code h.is e))
+  bad_scenario-said (Err words_fault.BadWords) asks bad h = λ fault e. absurd (bad-words-alone h.is e)
+  bad_scenario-said (Err words_fault.Memory) asks bad h = λ fault e. absurd (no-memory-alone h.is e)
 
   -- what the call says by its clause bad_scenario_where_due
   pub bad_scenario_where_due-said : (asked : Result Asked WordsFault) → IfOk asked (λ a. AskFor words a) → (asked ≡ Err words_fault.BadWords → AreNoCommand words) → Performed left faults held sink_faults asked source source_now sink sink_now status
@@ -159,8 +170,8 @@ module _ {S K : Type 0} (left : S → Option (List ℕ)) (faults : S → ℕ) (h
   bad_scenario_writes_nothing-said (Ok Wire) asks bad h = λ fault e. absurd (subst IsOfWire e h.own)
   bad_scenario_writes_nothing-said (Ok (Serve seats)) asks bad h = λ fault e. absurd (subst IsOfServe e h.own)
   bad_scenario_writes_nothing-said (Ok (Check pages patience format)) asks bad h = λ fault e. h.nothing (subst IsUntold (sym e) tt)
-  bad_scenario_writes_nothing-said (Err words_fault.BadWords) asks bad h = λ fault e. absurd (omega (arith, same-code h.is e))
-  bad_scenario_writes_nothing-said (Err words_fault.Memory) asks bad h = λ fault e. absurd (omega (arith, same-code h.is e))
+  bad_scenario_writes_nothing-said (Err words_fault.BadWords) asks bad h = λ fault e. absurd (bad-words-alone h.is e)
+  bad_scenario_writes_nothing-said (Err words_fault.Memory) asks bad h = λ fault e. absurd (no-memory-alone h.is e)
 
   -- what the call says by its clause illegal
   pub illegal-said : (asked : Result Asked WordsFault) → IfOk asked (λ a. AskFor words a) → (asked ≡ Err words_fault.BadWords → AreNoCommand words) → Performed left faults held sink_faults asked source source_now sink sink_now status
@@ -170,8 +181,8 @@ module _ {S K : Type 0} (left : S → Option (List ℕ)) (faults : S → ℕ) (h
   illegal-said (Ok Wire) asks bad h = λ line e. absurd (subst IsOfWire e h.own)
   illegal-said (Ok (Serve seats)) asks bad h = λ line e. absurd (subst IsOfServe e h.own)
   illegal-said (Ok (Check pages patience format)) asks bad h = λ line e. (record { pages = pages; patience = patience; format = format; asks = asks }, answered-check (settings_with pages patience format) (left source) (held sink) (held sink_now) _ _ status h.answers (Illegal line) e)
-  illegal-said (Err words_fault.BadWords) asks bad h = λ line e. absurd (omega (arith, same-code h.is e))
-  illegal-said (Err words_fault.Memory) asks bad h = λ line e. absurd (omega (arith, same-code h.is e))
+  illegal-said (Err words_fault.BadWords) asks bad h = λ line e. absurd (bad-words-alone h.is e)
+  illegal-said (Err words_fault.Memory) asks bad h = λ line e. absurd (no-memory-alone h.is e)
 
   -- what the call says by its clause illegal_where_due
   pub illegal_where_due-said : (asked : Result Asked WordsFault) → IfOk asked (λ a. AskFor words a) → (asked ≡ Err words_fault.BadWords → AreNoCommand words) → Performed left faults held sink_faults asked source source_now sink sink_now status
@@ -192,8 +203,8 @@ module _ {S K : Type 0} (left : S → Option (List ℕ)) (faults : S → ℕ) (h
   no_output-said (Ok Wire) asks bad h = λ e. absurd (subst IsOfWire e h.own)
   no_output-said (Ok (Serve seats)) asks bad h = λ e. absurd (subst IsOfServe e h.own)
   no_output-said (Ok (Check pages patience format)) asks bad h = λ e. (record { pages = pages; patience = patience; format = format; asks = asks }, check-none (settings_with pages patience format) (left source) (held sink) (held sink_now) _ _ status h.answers e)
-  no_output-said (Err words_fault.BadWords) asks bad h = λ e. absurd (omega (arith, same-code h.is e))
-  no_output-said (Err words_fault.Memory) asks bad h = λ e. absurd (omega (arith, same-code h.is e))
+  no_output-said (Err words_fault.BadWords) asks bad h = λ e. absurd (bad-words-alone h.is e)
+  no_output-said (Err words_fault.Memory) asks bad h = λ e. absurd (no-memory-alone h.is e)
 
   -- what the call says by its clause no_output_where_due
   pub no_output_where_due-said : (asked : Result Asked WordsFault) → IfOk asked (λ a. AskFor words a) → (asked ≡ Err words_fault.BadWords → AreNoCommand words) → Performed left faults held sink_faults asked source source_now sink sink_now status
@@ -214,8 +225,8 @@ module _ {S K : Type 0} (left : S → Option (List ℕ)) (faults : S → ℕ) (h
   no_output_writes_nothing-said (Ok Wire) asks bad h = λ e. absurd (subst IsOfWire e h.own)
   no_output_writes_nothing-said (Ok (Serve seats)) asks bad h = λ e. absurd (subst IsOfServe e h.own)
   no_output_writes_nothing-said (Ok (Check pages patience format)) asks bad h = λ e. h.nothing (subst IsUntold (sym e) tt)
-  no_output_writes_nothing-said (Err words_fault.BadWords) asks bad h = λ e. absurd (omega (arith, same-code h.is e))
-  no_output_writes_nothing-said (Err words_fault.Memory) asks bad h = λ e. absurd (omega (arith, same-code h.is e))
+  no_output_writes_nothing-said (Err words_fault.BadWords) asks bad h = λ e. absurd (bad-words-alone h.is e)
+  no_output_writes_nothing-said (Err words_fault.Memory) asks bad h = λ e. absurd (no-memory-alone h.is e)
 
   -- what the call says by its clause check_too_large
   pub check_too_large-said : (asked : Result Asked WordsFault) → IfOk asked (λ a. AskFor words a) → (asked ≡ Err words_fault.BadWords → AreNoCommand words) → Performed left faults held sink_faults asked source source_now sink sink_now status
@@ -225,8 +236,8 @@ module _ {S K : Type 0} (left : S → Option (List ℕ)) (faults : S → ℕ) (h
   check_too_large-said (Ok Wire) asks bad h = λ e. absurd (subst IsOfWire e h.own)
   check_too_large-said (Ok (Serve seats)) asks bad h = λ e. absurd (subst IsOfServe e h.own)
   check_too_large-said (Ok (Check pages patience format)) asks bad h = λ e. (record { pages = pages; patience = patience; format = format; asks = asks }, check-large (settings_with pages patience format) (left source) (held sink) (held sink_now) _ _ status h.answers e)
-  check_too_large-said (Err words_fault.BadWords) asks bad h = λ e. absurd (omega (arith, same-code h.is e))
-  check_too_large-said (Err words_fault.Memory) asks bad h = λ e. absurd (omega (arith, same-code h.is e))
+  check_too_large-said (Err words_fault.BadWords) asks bad h = λ e. absurd (bad-words-alone h.is e)
+  check_too_large-said (Err words_fault.Memory) asks bad h = λ e. absurd (no-memory-alone h.is e)
 
   -- what the call says by its clause check_too_large_where_due
   pub check_too_large_where_due-said : (asked : Result Asked WordsFault) → IfOk asked (λ a. AskFor words a) → (asked ≡ Err words_fault.BadWords → AreNoCommand words) → Performed left faults held sink_faults asked source source_now sink sink_now status
@@ -247,8 +258,8 @@ module _ {S K : Type 0} (left : S → Option (List ℕ)) (faults : S → ℕ) (h
   check_too_large_writes_nothing-said (Ok Wire) asks bad h = λ e. absurd (subst IsOfWire e h.own)
   check_too_large_writes_nothing-said (Ok (Serve seats)) asks bad h = λ e. absurd (subst IsOfServe e h.own)
   check_too_large_writes_nothing-said (Ok (Check pages patience format)) asks bad h = λ e. h.nothing (subst IsUntold (sym e) tt)
-  check_too_large_writes_nothing-said (Err words_fault.BadWords) asks bad h = λ e. absurd (omega (arith, same-code h.is e))
-  check_too_large_writes_nothing-said (Err words_fault.Memory) asks bad h = λ e. absurd (omega (arith, same-code h.is e))
+  check_too_large_writes_nothing-said (Err words_fault.BadWords) asks bad h = λ e. absurd (bad-words-alone h.is e)
+  check_too_large_writes_nothing-said (Err words_fault.Memory) asks bad h = λ e. absurd (no-memory-alone h.is e)
 
   -- what the call says by its clause read_fault
   pub read_fault-said : (asked : Result Asked WordsFault) → IfOk asked (λ a. AskFor words a) → (asked ≡ Err words_fault.BadWords → AreNoCommand words) → Performed left faults held sink_faults asked source source_now sink sink_now status
@@ -261,8 +272,8 @@ module _ {S K : Type 0} (left : S → Option (List ℕ)) (faults : S → ℕ) (h
   read_fault-said (Ok Wire) asks bad h = λ e. (inr (inl asks), h.read_fault e)
   read_fault-said (Ok (Serve seats)) asks bad h = λ e. (inr (inr (inr (record { seats = seats; asks = asks }))), h.read_fault e)
   read_fault-said (Ok (Check pages patience format)) asks bad h = λ e. (inr (inr (inl (record { pages = pages; patience = patience; format = format; asks = asks }))), h.read_fault e)
-  read_fault-said (Err words_fault.BadWords) asks bad h = λ e. absurd (omega (arith, same-code h.is e))
-  read_fault-said (Err words_fault.Memory) asks bad h = λ e. absurd (omega (arith, same-code h.is e))
+  read_fault-said (Err words_fault.BadWords) asks bad h = λ e. absurd (bad-words-alone h.is e)
+  read_fault-said (Err words_fault.Memory) asks bad h = λ e. absurd (no-memory-alone h.is e)
 
   -- what the call says by its clause read_fault_where_due
   pub read_fault_where_due-said : (asked : Result Asked WordsFault) → IfOk asked (λ a. AskFor words a) → (asked ≡ Err words_fault.BadWords → AreNoCommand words) → Performed left faults held sink_faults asked source source_now sink sink_now status
@@ -294,8 +305,8 @@ module _ {S K : Type 0} (left : S → Option (List ℕ)) (faults : S → ℕ) (h
   read_fault_writes_nothing-said (Ok Wire) asks bad h = λ other. absurd (other asks)
   read_fault_writes_nothing-said (Ok (Serve seats)) asks bad h = λ wire other. absurd (other (record { seats = seats; asks = asks }))
   read_fault_writes_nothing-said (Ok (Check pages patience format)) asks bad h = λ other serve e. h.nothing (subst IsUntold (sym e) tt)
-  read_fault_writes_nothing-said (Err words_fault.BadWords) asks bad h = λ other serve e. absurd (omega (arith, same-code h.is e))
-  read_fault_writes_nothing-said (Err words_fault.Memory) asks bad h = λ other serve e. absurd (omega (arith, same-code h.is e))
+  read_fault_writes_nothing-said (Err words_fault.BadWords) asks bad h = λ other serve e. absurd (bad-words-alone h.is e)
+  read_fault_writes_nothing-said (Err words_fault.Memory) asks bad h = λ other serve e. absurd (no-memory-alone h.is e)
 
   -- what the call says by its clause read_fault_writes_answers
   pub read_fault_writes_answers-said : (asked : Result Asked WordsFault) → IfOk asked (λ a. AskFor words a) → (asked ≡ Err words_fault.BadWords → AreNoCommand words) → Performed left faults held sink_faults asked source source_now sink sink_now status
@@ -306,7 +317,7 @@ module _ {S K : Type 0} (left : S → Option (List ℕ)) (faults : S → ℕ) (h
   read_fault_writes_answers-said (Ok (Serve seats)) asks bad h = λ ask. absurd (serve-no_wire words seats asks ask)
   read_fault_writes_answers-said (Ok (Check pages patience format)) asks bad h = λ ask. absurd (check-no_wire words pages patience format asks ask)
   read_fault_writes_answers-said (Err words_fault.BadWords) asks bad h = λ ask. absurd (none-wires words (bad refl) ask)
-  read_fault_writes_answers-said (Err words_fault.Memory) asks bad h = λ ask e. absurd (omega (arith, same-code h.is e))
+  read_fault_writes_answers-said (Err words_fault.Memory) asks bad h = λ ask e. absurd (no-memory-alone h.is e)
 
   -- what the call says by its clause read_fault_writes_what_was_told
   pub read_fault_writes_what_was_told-said : (asked : Result Asked WordsFault) → IfOk asked (λ a. AskFor words a) → (asked ≡ Err words_fault.BadWords → AreNoCommand words) → Performed left faults held sink_faults asked source source_now sink sink_now status
@@ -317,7 +328,7 @@ module _ {S K : Type 0} (left : S → Option (List ℕ)) (faults : S → ℕ) (h
   read_fault_writes_what_was_told-said (Ok (Serve seats)) asks bad h = λ ask e. read-serve seats (left source) (held sink) (held sink_now) status h.answers ask.seats (same-seats words seats ask asks) e
   read_fault_writes_what_was_told-said (Ok (Check pages patience format)) asks bad h = λ ask. absurd (check-no_serve words pages patience format asks ask)
   read_fault_writes_what_was_told-said (Err words_fault.BadWords) asks bad h = λ ask. absurd (none-serves words (bad refl) ask)
-  read_fault_writes_what_was_told-said (Err words_fault.Memory) asks bad h = λ ask e. absurd (omega (arith, same-code h.is e))
+  read_fault_writes_what_was_told-said (Err words_fault.Memory) asks bad h = λ ask e. absurd (no-memory-alone h.is e)
 
   -- what the call says by its clause write_fault
   pub write_fault-said : (asked : Result Asked WordsFault) → IfOk asked (λ a. AskFor words a) → (asked ≡ Err words_fault.BadWords → AreNoCommand words) → Performed left faults held sink_faults asked source source_now sink sink_now status
@@ -327,8 +338,8 @@ module _ {S K : Type 0} (left : S → Option (List ℕ)) (faults : S → ℕ) (h
   write_fault-said (Ok Wire) asks bad h = h.write_fault
   write_fault-said (Ok (Serve seats)) asks bad h = h.write_fault
   write_fault-said (Ok (Check pages patience format)) asks bad h = h.write_fault
-  write_fault-said (Err words_fault.BadWords) asks bad h = λ e. absurd (omega (arith, same-code h.is e))
-  write_fault-said (Err words_fault.Memory) asks bad h = λ e. absurd (omega (arith, same-code h.is e))
+  write_fault-said (Err words_fault.BadWords) asks bad h = λ e. absurd (bad-words-alone h.is e)
+  write_fault-said (Err words_fault.Memory) asks bad h = λ e. absurd (no-memory-alone h.is e)
 
   -- what the call says by its clause write_fault_where_due
   pub write_fault_where_due-said : (asked : Result Asked WordsFault) → IfOk asked (λ a. AskFor words a) → (asked ≡ Err words_fault.BadWords → AreNoCommand words) → Performed left faults held sink_faults asked source source_now sink sink_now status
@@ -353,8 +364,8 @@ module _ {S K : Type 0} (left : S → Option (List ℕ)) (faults : S → ℕ) (h
   write_fault_writes_a_prefix-said (Ok Wire) asks bad h = λ e. record { asked = Wire; asks = asks; done = write-wire (left source) (held sink) (held sink_now) status h.answers e }
   write_fault_writes_a_prefix-said (Ok (Serve seats)) asks bad h = λ e. record { asked = Serve seats; asks = asks; done = write-serve seats (left source) (held sink) (held sink_now) status h.answers e }
   write_fault_writes_a_prefix-said (Ok (Check pages patience format)) asks bad h = λ e. record { asked = Check pages patience format; asks = asks; done = check-part (settings_with pages patience format) (left source) (held sink) (held sink_now) _ _ status h.answers e }
-  write_fault_writes_a_prefix-said (Err words_fault.BadWords) asks bad h = λ e. absurd (omega (arith, same-code h.is e))
-  write_fault_writes_a_prefix-said (Err words_fault.Memory) asks bad h = λ e. absurd (omega (arith, same-code h.is e))
+  write_fault_writes_a_prefix-said (Err words_fault.BadWords) asks bad h = λ e. absurd (bad-words-alone h.is e)
+  write_fault_writes_a_prefix-said (Err words_fault.Memory) asks bad h = λ e. absurd (no-memory-alone h.is e)
 
   -- what the call says by its clause no_memory_writes_nothing
   pub no_memory_writes_nothing-said : (asked : Result Asked WordsFault) → IfOk asked (λ a. AskFor words a) → (asked ≡ Err words_fault.BadWords → AreNoCommand words) → Performed left faults held sink_faults asked source source_now sink sink_now status
@@ -364,7 +375,7 @@ module _ {S K : Type 0} (left : S → Option (List ℕ)) (faults : S → ℕ) (h
   no_memory_writes_nothing-said (Ok Wire) asks bad h = λ once other. absurd (other asks)
   no_memory_writes_nothing-said (Ok (Serve seats)) asks bad h = λ once wire other. absurd (other (record { seats = seats; asks = asks }))
   no_memory_writes_nothing-said (Ok (Check pages patience format)) asks bad h = λ once other serve e. h.nothing (subst IsUntold (sym e) tt)
-  no_memory_writes_nothing-said (Err words_fault.BadWords) asks bad h = λ once other serve e. absurd (omega (arith, same-code h.is e))
+  no_memory_writes_nothing-said (Err words_fault.BadWords) asks bad h = λ once other serve e. absurd (bad-words-alone h.is e)
   no_memory_writes_nothing-said (Err words_fault.Memory) asks bad h = λ once other serve e. ap held h.writes
 
   -- what the call says by its clause no_memory_writes_first_lines
@@ -381,7 +392,7 @@ module _ {S K : Type 0} (left : S → Option (List ℕ)) (faults : S → ℕ) (h
   no_memory_writes_first_lines-said (Ok Wire) asks bad h = λ ask. absurd (wire-no_run words asks (live-runs words ask))
   no_memory_writes_first_lines-said (Ok (Serve seats)) asks bad h = λ ask. absurd (serve-no_run words seats asks (live-runs words ask))
   no_memory_writes_first_lines-said (Ok (Check pages patience format)) asks bad h = λ ask. absurd (check-no_run words pages patience format asks (live-runs words ask))
-  no_memory_writes_first_lines-said (Err words_fault.BadWords) asks bad h = λ ask e. absurd (omega (arith, same-code h.is e))
+  no_memory_writes_first_lines-said (Err words_fault.BadWords) asks bad h = λ ask e. absurd (bad-words-alone h.is e)
   no_memory_writes_first_lines-said (Err words_fault.Memory) asks bad h = λ ask e. inl (ap held h.writes)
 
   -- what the call says by its clause no_memory_writes_whole_answers
@@ -414,8 +425,8 @@ module _ {S K : Type 0} (left : S → Option (List ℕ)) (faults : S → ℕ) (h
   bad_wire-said (Ok Wire) asks bad h = λ fault e. (asks, bad-wire (left source) (held sink) (held sink_now) status h.answers fault e)
   bad_wire-said (Ok (Serve seats)) asks bad h = λ fault e. absurd (subst IsOfServe e h.own)
   bad_wire-said (Ok (Check pages patience format)) asks bad h = λ fault e. absurd (subst IsOfCheck e h.own)
-  bad_wire-said (Err words_fault.BadWords) asks bad h = λ fault e. absurd (omega (arith, same-code h.is e))
-  bad_wire-said (Err words_fault.Memory) asks bad h = λ fault e. absurd (omega (arith, same-code h.is e))
+  bad_wire-said (Err words_fault.BadWords) asks bad h = λ fault e. absurd (bad-words-alone h.is e)
+  bad_wire-said (Err words_fault.Memory) asks bad h = λ fault e. absurd (no-memory-alone h.is e)
 
   -- what the call says by its clause bad_wire_where_due
   pub bad_wire_where_due-said : (asked : Result Asked WordsFault) → IfOk asked (λ a. AskFor words a) → (asked ≡ Err words_fault.BadWords → AreNoCommand words) → Performed left faults held sink_faults asked source source_now sink sink_now status
@@ -436,8 +447,8 @@ module _ {S K : Type 0} (left : S → Option (List ℕ)) (faults : S → ℕ) (h
   bad_frame-said (Ok Wire) asks bad h = λ fault e. absurd (subst IsOfWire e h.own)
   bad_frame-said (Ok (Serve seats)) asks bad h = λ fault e. ((record { seats = seats; asks = asks }), bad-serve seats (left source) (held sink) (held sink_now) status h.answers fault e)
   bad_frame-said (Ok (Check pages patience format)) asks bad h = λ fault e. absurd (subst IsOfCheck e h.own)
-  bad_frame-said (Err words_fault.BadWords) asks bad h = λ fault e. absurd (omega (arith, same-code h.is e))
-  bad_frame-said (Err words_fault.Memory) asks bad h = λ fault e. absurd (omega (arith, same-code h.is e))
+  bad_frame-said (Err words_fault.BadWords) asks bad h = λ fault e. absurd (bad-words-alone h.is e)
+  bad_frame-said (Err words_fault.Memory) asks bad h = λ fault e. absurd (no-memory-alone h.is e)
 
   -- what the call says by its clause bad_frame_where_due
   pub bad_frame_where_due-said : (asked : Result Asked WordsFault) → IfOk asked (λ a. AskFor words a) → (asked ≡ Err words_fault.BadWords → AreNoCommand words) → Performed left faults held sink_faults asked source source_now sink sink_now status

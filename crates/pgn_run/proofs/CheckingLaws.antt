@@ -59,13 +59,12 @@ judged-no-fault settings input given fault h k =
 
 -- From the verdict to the answer.
 
+-- a verdict on the two parts of an input that is not too large is one on the input
 pub judged-in : (settings : Settings) (input : List ℕ) (parts : Parts) (given : Verdict) → length input ≤ CHECK_BYTES_MAX → parts_of input ≡ Some parts
     → IsVerdictOn settings parts.scenario parts.output given → IsJudged settings input given
 judged-in settings input parts given fits parted h = record { parts = parts; scenario = h.scenario; fits = fits; parted = parted; reads = h.reads; judged = h.judged }
 
-pub faulty-in : (input : List ℕ) (parts : Parts) (fault : ScenarioFault) → length input ≤ CHECK_BYTES_MAX → parts_of input ≡ Some parts → ReadsAsScenario parts.scenario (Err fault) → HasFault input fault
-faulty-in input parts fault fits parted reads = record { parts = parts; fits = fits; parted = parted; reads = reads }
-
+-- a verdict on the input that was told is an answer to it
 pub told-answers : (settings : Settings) (input : List ℕ) (given : Verdict) (old new : Option (List ℕ)) (before now : ℕ) (status : Status) → IsJudged settings input given
     → HasTold given old new before now status → AnswersCheck settings input old new before now status
 told-answers settings input verdict.Legal old new before now Done judged told = (judged, told.1)
@@ -93,23 +92,6 @@ told-answers settings input (verdict.Illegal n) old new before now (Illegal line
 told-answers settings input (verdict.Illegal n) old new before now NoOutput judged told = absurd (let bad = told.0 in cc)
 told-answers settings input (verdict.Illegal n) old new before now CheckTooLarge judged told = absurd (let bad = told.0 in cc)
 
--- a verdict that was told is not a failed read
-pub told-read : (given : Verdict) (old new : Option (List ℕ)) (before now : ℕ) (status : Status) → HasTold given old new before now status → status ≡ ReadFault → ⊥
-told-read given old new before now status told e =
-    let known : HasTold given old new before now ReadFault = subst (λ (s : Status). HasTold given old new before now s) e told in
-    go given known.0
-  where
-    go : (v : Verdict) → ReadFault ≡ status_of v → ⊥
-    go verdict.Legal is = cc
-    go (verdict.Illegal n) is = cc
-
--- the line of a verdict that was written whole
-pub told-whole : (given : Verdict) (old new : Option (List ℕ)) (before now : ℕ) (status : Status) → status ≡ status_of given → Appends old new (verdict_text given) → HasTold given old new before now status
-told-whole verdict.Legal old new before now status e a =
-    subst (λ (s : Status). HasTold verdict.Legal old new before now s) (sym e) (let known : HasTold verdict.Legal old new before now Done = (refl, a) in known)
-told-whole (verdict.Illegal n) old new before now status e a =
-    subst (λ (s : Status). HasTold (verdict.Illegal n) old new before now s) (sym e) (let known : HasTold (verdict.Illegal n) old new before now (Illegal n) = (refl, a) in known)
-
 -- From what was read to what is left.
 
 large-whole : (xs input : List ℕ) → input ≡ take (CHECK_BYTES_MAX + 1) xs → IsTooLarge input → IsTooLarge xs
@@ -135,6 +117,7 @@ answers-whole settings xs input old new before now (Illegal line) e h = (judged-
 answers-whole settings xs input old new before now NoOutput e h = (subst (λ (bytes : List ℕ). HasNoOutput bytes) (within xs input e h.0.fits) h.0, h.1)
 answers-whole settings xs input old new before now CheckTooLarge e h = (large-whole xs input e h.0, h.1)
 
+-- an answer to what was read, which is all that was left or its first bytes, is one to what was left
 pub answers-left : (settings : Settings) (left : Option (List ℕ)) (input : List ℕ) (old new : Option (List ℕ)) (before now : ℕ) (status : Status)
     → IfSome left (λ xs. input ≡ take (CHECK_BYTES_MAX + 1) xs) → AnswersCheck settings input old new before now status → IfSome left (λ xs. AnswersCheck settings xs old new before now status)
 answers-left settings left input old new before now status bytes h =
@@ -150,6 +133,7 @@ same-known settings (Some xs) old new before now status only same = elim only [
   | inr e ↦ subst (λ (s : Status). AnswersCheck settings xs old new before now s) (sym e) same
 ]
 
+-- an answer to what is checked is an outcome that `check` may have
 pub own-answer : (settings : Settings) (input : List ℕ) (old new : Option (List ℕ)) (before now : ℕ) (status : Status) → AnswersCheck settings input old new before now status → IsOfCheck status
 own-answer settings input old new before now Done h = tt
 own-answer settings input old new before now BadWords h = h
@@ -163,6 +147,7 @@ own-answer settings input old new before now (Illegal line) h = tt
 own-answer settings input old new before now NoOutput h = tt
 own-answer settings input old new before now CheckTooLarge h = tt
 
+-- where nothing is told nothing was written
 pub untold-same : (settings : Settings) (input : List ℕ) (old new : Option (List ℕ)) (before now : ℕ) (status : Status) → AnswersCheck settings input old new before now status → IsUntold status → new ≡ old
 untold-same settings input old new before now Done h untold = absurd untold
 untold-same settings input old new before now BadWords h untold = absurd h
@@ -176,6 +161,7 @@ untold-same settings input old new before now (Illegal line) h untold = absurd u
 untold-same settings input old new before now NoOutput h untold = h.1
 untold-same settings input old new before now CheckTooLarge h untold = h.1
 
+-- a write fault has raised the sink's count
 pub fault-rose : (settings : Settings) (input : List ℕ) (old new : Option (List ℕ)) (before now : ℕ) (status : Status) → AnswersCheck settings input old new before now status → status ≡ WriteFault → Rose before now
 fault-rose settings input old new before now status h e =
     let known : AnswersCheck settings input old new before now WriteFault = subst (λ (s : Status). AnswersCheck settings input old new before now s) e h in
@@ -192,15 +178,19 @@ module _ (settings : Settings) (left old new : Option (List ℕ)) (before now : 
   pub answered-check : (other : Status) → status ≡ other → IfSome left (λ xs. AnswersCheck settings xs old new before now other)
   answered-check other e = subst (λ (s : Status). IfSome left (λ xs. AnswersCheck settings xs old new before now s)) e answers
 
+  -- after a write fault a prefix of what is told stands written
   pub check-part : status ≡ WriteFault → IfSome left (λ xs. Tells settings xs (AppendsPrefix old new))
   check-part e = first _ left (λ xs. Tells settings xs (AppendsPrefix old new)) (answered-check WriteFault e)
 
+  -- a scenario at fault is the one in what was left
   pub check-fault : (fault : ScenarioFault) → status ≡ BadScenario fault → IfSome left (λ xs. HasFault xs fault)
   check-fault fault e = first _ left (λ xs. HasFault xs fault) (answered-check (BadScenario fault) e)
 
+  -- where no output was found there is none in what was left
   pub check-none : status ≡ NoOutput → IfSome left HasNoOutput
   check-none e = first _ left HasNoOutput (answered-check NoOutput e)
 
+  -- an input that was too large is what was left
   pub check-large : status ≡ CheckTooLarge → IfSome left IsTooLarge
   check-large e = first _ left IsTooLarge (answered-check CheckTooLarge e)
 

@@ -1,7 +1,6 @@
 -- A hub that is opened for one client, and its session.
-use Rattle.std.proofs.Common.{◌≡◌, ℕ, ◌+◌, List, [], ◌∷◌, ◌++◌, length, map, get_or, All, sym, ap, ◌∙◌, subst, refl, arith}
+use Rattle.std.proofs.Common.{◌≡◌, ℕ, List, [], ◌∷◌, length, map, get_or, All, sym, ap, ◌∙◌, subst, refl, arith}
 use Rattle.std.specs.List.{range_with_len}
-use Rattle.std.proofs.lemmas.List.{length-append, length-map}
 use Rattle.std.proofs.lemmas.List.Elements.{All-nil, All-cons, All-head}
 use Rattle.pgn_hub.specs.declared.setup.SeatSetup.{SeatSetup}
 use Rattle.pgn_hub.specs.Passes.{opened_pass, opened_passes}
@@ -18,13 +17,6 @@ use Rattle.pgn_queries.specs.Script.{wire_quit}
 use Rattle.pgn_session.specs.Open.{BeginsEmpty}
 use Rattle.pgn_run.specs.Conversation.{session_section, wire_plan, wire_seat, wire_shape}
 
--- one pass is known
-pub one-pass : {P : Type 0} (known : P → Known) (passes : List P) (setup : Shape) (seats : List SeatSetup) → map known passes ≡ opened_passes 1 setup.seats → setup.seats ≡ seats → seats ≡ wire_shape.seats → length passes ≡ 1
-one-pass {P} known passes setup seats e f g =
-    let all : map known passes ≡ opened_passes 1 wire_shape.seats = e ∙ ap (λ (s : List SeatSetup). opened_passes 1 s) (f ∙ g) in
-    let as_many : length (map known passes) ≡ 1 = ap (λ (ks : List Known). length ks) all in
-    omega (arith, as_many, length-map passes known)
-
 -- it is that of a pass as it is opened
 pub opened-known : {P : Type 0} (known : P → Known) (passes : List P) (pass : P) (setup : Shape) (seats : List SeatSetup) → map known passes ≡ opened_passes 1 setup.seats → setup.seats ≡ seats → seats ≡ wire_shape.seats → passes ≡ pass ∷ []
     → known pass ≡ opened_pass 1 wire_seat
@@ -35,13 +27,6 @@ opened-known {P} known passes pass setup seats e f g one =
 -- what holds of all holds of it
 pub only-has : {P : Type 0} (Q : P → Type 0) (passes : List P) (pass : P) → All Q passes → passes ≡ pass ∷ [] → Q pass
 only-has {P} Q passes pass h e = All-head Q pass [] (subst (λ (ps : List P). All Q ps) e h)
-
--- all but the last of one
-pub none-before : {P : Type 0} (old new : List P) (pass : P) → length old ≡ 1 → old ≡ new ++ pass ∷ [] → old ≡ pass ∷ []
-none-before old [] pass one e = e
-none-before old (p ∷ new) pass one e =
-    let long : length old ≡ length (p ∷ new) + length (pass ∷ []) = ap length e ∙ length-append (p ∷ new) (pass ∷ []) in
-    absurd (omega (arith, one, long))
 
 one-line : (shape : Shape) → All (λ line. IsFlagBelow shape.flags line.act) (wire_quit ∷ [])
 one-line shape = All-cons (λ (line : ScriptLine). IsFlagBelow shape.flags line.act) wire_quit [] tt (All-nil (λ (line : ScriptLine). IsFlagBelow shape.flags line.act))
@@ -65,14 +50,17 @@ opened-begins s e done doing items = record {
 
 -- The gathered pass.
 
+-- the one pass of a client's session is that of the one seat
 pub session-one : {P : Type 0} (shape : Shape) (known : P → Known) (s : Session P) (passes : List P) → HasRest shape known s → s.section.no ≡ 1 → passes ≡ s.pass ∷ [] → shape ≡ wire_shape
     → map (λ pass. (known pass).session) passes ≡ range_with_len 1 (length shape.seats)
 session-one {P} shape known s passes rested first e is =
     let number : (known s.pass).session ≡ 1 = rested.stands.session ∙ first in
     ap (λ (ps : List P). map (λ (pass : P). (known pass).session) ps) e ∙ ap (λ (n : ℕ). n ∷ []) number ∙ ap (λ (z : Shape). range_with_len 1 (length z.seats)) (sym is)
 
+-- what holds of one pass holds of all of them
 pub own-one : {P : Type 0} (Q : P → Type 0) (pass : P) (passes : List P) → passes ≡ pass ∷ [] → Q pass → All Q passes
 own-one {P} Q pass passes e h = subst (λ (ps : List P). All Q ps) (sym e) (All-cons Q pass [] h (All-nil Q))
 
+-- the pass that was put into the list alone is the session's
 pub alone-is : {P : Type 0} (all : List P) (pushed pass : P) → all ≡ pushed ∷ [] → pushed ≡ pass → all ≡ pass ∷ []
 alone-is {P} all pushed pass e f = e ∙ ap (λ (p : P). p ∷ []) f

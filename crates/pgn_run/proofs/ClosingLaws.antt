@@ -1,6 +1,6 @@
 -- How what the seats of a service have is closed.
-use Rattle.std.proofs.Common.{◌≡◌, ℕ, zero, suc, ◌+◌, ◌-◌, ◌<◌, ◌≤◌, true, List, [], ◌∷◌, ◌++◌, length, map, take, drop, get_or, take_all, All, Option, Some, None, Result, Ok, Err, OnOk, sym, ap, ◌∙◌, refl, subst, arith, append-nil, append_assoc}
-use Rattle.std.proofs.Common.{◌⊎◌, inl, inr, length-drop}
+use Rattle.std.proofs.Common.{◌≡◌, ℕ, zero, suc, ◌+◌, ◌-◌, ◌<◌, ◌≤◌, true, List, [], ◌∷◌, ◌++◌, length, map, take, drop, get_or, take_all, All, Option, Result, Ok, Err, OnOk, sym, ap, ◌∙◌, refl, subst, arith, append-nil}
+use Rattle.std.proofs.Common.{◌⊎◌, inl, inr}
 use Rattle.std.specs.List.{range_with_len}
 use Rattle.std.specs.declared.alloc.AllocError.{AllocError}
 use Rattle.std.proofs.lemmas.Bool.{cases_lt}
@@ -12,14 +12,13 @@ use Rattle.pgn_hub.specs.Gathered.{Gathered}
 use Rattle.pgn_hub.specs.Passes.{IsWithin}
 use Rattle.pgn_hub.specs.declared.known.Known.{Known}
 use Rattle.pgn_hub.specs.Shape.{Shape}
-use Rattle.pgn_language.specs.declared.scenario.ScriptLine.{ScriptLine}
 use Rattle.pgn_language.specs.declared.scenario.Section.{Section}
 use Rattle.pgn_outlet.specs.declared.came.Came.{Came}
 use Rattle.pgn_outlet.specs.declared.hand.Hand.{Hand}
 use Rattle.pgn_outlet.specs.declared.outlet.Outlet.{Outlet}
 use Rattle.pgn_outlet.specs.Cames.{what_in, what_of}
-use Rattle.pgn_outlet.specs.Passes.{HasAll, IsPassOf, knows}
-use Rattle.pgn_outlet.specs.Rule.{MayPush, taken_over, with_got}
+use Rattle.pgn_outlet.specs.Passes.{IsPassOf, knows}
+use Rattle.pgn_outlet.specs.Rule.{MayPush, taken_over}
 use Rattle.pgn_session.specs.declared.session.Session.{Session}
 use Rattle.pgn_session.specs.Open.{IsSameClient}
 use Rattle.pgn_turns.specs.declared.asked.Ask.{Ask}
@@ -33,7 +32,7 @@ use Rattle.pgn_frames.specs.declared.framing.NoFrame.{NoFrame}
 use Rattle.pgn_frames.specs.declared.framing.NoFrame.TheVariants as none
 use Rattle.pgn_outlet.specs.Rule.{sender}
 use Rattle.pgn_run.specs.Arms.{HasRead}
-use Rattle.pgn_run.specs.Closing.{AreOver, HasGathered, HasTakenFirst, HasTakenRest, HaveTakenFirst, MayClose, MayCloseAll}
+use Rattle.pgn_run.specs.Closing.{AreOver, HasGathered, HasTakenFirst, HasTakenRest, HaveTakenFirst, MayCloseAll}
 use Rattle.pgn_run.specs.Seats.{AreGiven, IsGiven}
 use Rattle.pgn_run.proofs.SeatingLaws.{given-at}
 
@@ -44,21 +43,9 @@ pub record HasTakenMore {T : Type 0} (old new : Hand T) : Type 0 where
   pub more : List (Came T)
   pub got : new ≡ record old { got = old.got ++ more }
 
+-- a pass that took nothing has taken no more
 pub no-more : {T : Type 0} (v : Hand T) → HasTakenMore v v
 no-more {T} v = record { more = []; got = ap (λ (l : List (Came T)). let x : Hand T = record v { got = l } in x) (sym (append-nil v.got)) }
-
-pub one-more : {T : Type 0} (v w x : Hand T) (came : Came T) → HasTakenMore v w → x ≡ with_got w came → HasTakenMore v x
-one-more {T} v w x came h e = record {
-  more = h.more ++ came ∷ [];
-  got = e ∙ ap (λ (y : Hand T). let z : Hand T = record y { got = y.got ++ came ∷ [] } in z) h.got ∙ ap (λ (l : List (Came T)). let z : Hand T = record v { got = l } in z) (append_assoc v.got h.more (came ∷ []));
-}
-
-pub no-rest : {T : Type 0} (v w x : Hand T) → HasTakenMore v w → x ≡ w → HasAll x → HasTakenRest v x
-no-rest v w x h e all = record { more = h.more; got = e ∙ h.got; all = all }
-
--- it may take still
-pub takes-still : {T : Type 0} (v w : Hand T) → v.takes ≡ true → HasTakenMore v w → w.takes ≡ true
-takes-still v w takes h = ap (λ (x : Hand _). x.takes) h.got ∙ takes
 
 -- the first of what a pass has put, where another took over what the taker had taken, and then took all
 pub taken-first : {T : Type 0} (v t c w : Hand T) → c ≡ taken_over v t → HasTakenRest c w → HasTakenFirst v t
@@ -77,22 +64,12 @@ next-of {A} all left k x rest d lt e f =
     let next : suc k ≡ k + 1 = omega arith in
     (ap (λ (l : List A). get_or l 0 d) whole, ap (λ (l : List A). drop 1 l) whole ∙ ap (λ (n : ℕ). drop n all) next)
 
-pub none-left : {A : Type 0} (all left : List A) (k : ℕ) → k < length all → left ≡ drop k all → 0 < length left
-none-left all left k lt e = omega (arith, lt, ap (λ l. length l) e, length-drop k all)
-
 -- the first seats, so many, are closed
 pub record HaveClosed {P : Type 0} (place : ℕ) (desks desks_left : List (Desk P)) (callers callers_left : List Caller) (passes : List P) (so_far : Result Unit AllocError) : Type 0 where
   pub desks_are : desks_left ≡ drop place desks
   pub callers_are : callers_left ≡ drop place callers
   pub took : (k : ℕ) (e : Desk P) (c : Caller) → k < place → HasTakenFirst (knows (get_or callers k c).asks) (knows (get_or desks k e).asks)
   pub kept : OnOk so_far (passes ≡ map (λ desk. desk.session.pass) (take place desks))
-
-pub none-closed : {P : Type 0} (desks : List (Desk P)) (callers : List Caller) (passes : List P) (so_far : Result Unit AllocError) → passes ≡ [] → HaveClosed 0 desks desks callers callers passes so_far
-none-closed desks callers passes so_far e = record { desks_are = refl; callers_are = refl; took = λ k d c lt. absurd (omega (arith, lt)); kept = always so_far e }
-  where
-    always : (r : Result Unit AllocError) → passes ≡ [] → OnOk r (passes ≡ [])
-    always (Ok x) h = h
-    always (Err x) h = tt
 
 take-more : {A : Type 0} (xs : List A) (k : ℕ) (d : A) → k < length xs → take (k + 1) xs ≡ take k xs ++ get_or xs k d ∷ []
 take-more [] k d lt = absurd (omega (arith, lt))
@@ -101,6 +78,7 @@ take-more {A} (x ∷ xs) (suc k) d lt =
     let next : suc k + 1 ≡ suc (k + 1) = omega arith in
     ap (λ (n : ℕ). take n (x ∷ xs)) next ∙ ap (λ (ys : List A). x ∷ ys) (take-more xs k d (omega (arith, lt)))
 
+-- where the first seats are closed and the next one is, one seat more is closed
 pub one-closed : {P : Type 0} (place : ℕ) (desks left rest : List (Desk P)) (callers calls others : List Caller) (passes passes_one : List P) (so_far so_far_one : Result Unit AllocError) (desk : Desk P) (caller : Caller)
     → place < length desks → place < length callers → HaveClosed place desks left callers calls passes so_far → left ≡ desk ∷ rest → calls ≡ caller ∷ others → HasTakenFirst (knows caller.asks) (knows desk.asks)
     → OnOk so_far_one (so_far ≡ Ok tt) → OnOk so_far_one (passes_one ≡ passes ++ desk.session.pass ∷ []) → HaveClosed (place + 1) desks rest callers others passes_one so_far_one
@@ -128,9 +106,11 @@ one-closed {P} place desks left rest callers calls others passes passes_one so_f
         ∙ sym (map-append (λ (x : Desk P). x.session.pass) (take place desks) (get_or desks place desk ∷ []))
         ∙ ap (λ (ds : List (Desk P)). map (λ (x : Desk P). x.session.pass) ds) (sym (take-more desks place desk lt))
 
+-- where all seats are closed each taker had taken the first of what was put
 pub all-took : {P : Type 0} (place : ℕ) (desks left : List (Desk P)) (callers calls : List Caller) (passes : List P) (so_far : Result Unit AllocError) → length desks ≤ place → HaveClosed place desks left callers calls passes so_far → HaveTakenFirst desks callers
 all-took place desks left callers calls passes so_far past h = λ k e c lt. h.took k e c (omega (arith, lt, past))
 
+-- and the passes of all desks were kept, where memory sufficed
 pub all-passes : {P : Type 0} (place : ℕ) (desks left : List (Desk P)) (callers calls : List Caller) (passes : List P) (so_far : Result Unit AllocError) → length desks ≤ place → HaveClosed place desks left callers calls passes so_far
     → OnOk so_far (passes ≡ map (λ desk. desk.session.pass) desks)
 all-passes {P} place desks left callers calls passes so_far past h = at so_far h.kept
@@ -148,12 +128,14 @@ given-same seats seat old new same given = record {
   patience = same.patience ∙ given.patience;
 }
 
+-- desks that serve the same clients have still what they were given
 pub given-still : {P : Type 0} (seats n : ℕ) (old new : List (Desk P)) → AreSameClients old new → AreGiven seats n old → AreGiven seats n new
 given-still seats n [] [] same given = tt
 given-still seats n [] (y ∷ new) same given = absurd same
 given-still seats n (x ∷ old) [] same given = absurd same
 given-still seats n (x ∷ old) (y ∷ new) same given = (given-same seats n x.session y.session same.0 given.0, given-still seats (n + 1) old new same.1 given.1)
 
+-- and are as many as before
 pub same-count : {P : Type 0} (old new : List (Desk P)) → AreSameClients old new → length new ≡ length old
 same-count {P} old new same = sym (length_all_zip (λ (x y : Desk P). IsSameClient x.session y.session) old new same)
 
@@ -165,12 +147,14 @@ pub record IsStillCaller (inbox : Outlet (Option Ask)) (caller : Caller) : Type 
 still : (sent : List (Came (Option Ask))) (v : Hand (Option Ask)) → v ≡ record sender { sent = sent } → v ≡ record sender { sent = v.sent }
 still sent v e = e ∙ ap (λ (l : List (Came (Option Ask))). let w : Hand (Option Ask) = record sender { sent = l } in w) (sym (ap (λ (w : Hand (Option Ask)). w.sent) e))
 
+-- however a reader ended, each caller puts by its inbox's pass still
 pub still-callers : (most : ℕ) (bytes : Option (List ℕ)) (callers : List Caller) (boxes : List (Outlet (Option Ask))) (res : Result (Option FrameFault) NoFrame) → HasRead most bytes boxes callers res
     → (k : ℕ) (o : Outlet (Option Ask)) (c : Caller) → k < length callers → IsStillCaller (get_or boxes k o) (get_or callers k c)
 still-callers most bytes callers boxes (Ok fault) h k o c lt = let one = h.asked k o c lt in record { own = one.own; same = still _ (knows (get_or callers k c).asks) one.put }
 still-callers most bytes callers boxes (Err none.Failed) h k o c lt = let one = h.asked k o c lt in record { own = one.own; same = still _ (knows (get_or callers k c).asks) one.put }
 still-callers most bytes callers boxes (Err none.Memory) h k o c lt = let one = h.asked k o c lt in record { own = one.own; same = still _ (knows (get_or callers k c).asks) one.put }
 
+-- a service whose desks have told and whose reader has ended may be closed
 pub may-close : {P : Type 0} (seats most : ℕ) (shape : Shape) (bytes : Option (List ℕ)) (boxes : List (Outlet (Option Ask))) (desks : List (Desk P)) (callers : List Caller) (v : Hand Saying) (res : Result (Option FrameFault) NoFrame)
     → length boxes ≡ seats → length desks ≡ seats → length callers ≡ seats → AreGiven seats 1 desks → All (λ desk. HasToldFirst shape boxes desk v) desks → HasRead most bytes boxes callers res → MayCloseAll boxes desks callers
 may-close {P} seats most shape bytes boxes desks callers v res b d c given told read = record {
@@ -197,6 +181,7 @@ module _ {P : Type 0} (is_own : P → Type 0) (shape : Shape) (known : P → Kno
       ap (λ (m : ℕ). m ∷ map (λ (desk : Desk P). (known desk.session.pass).session) desks) first
       ∙ ap (λ (l : List ℕ). n ∷ l) (in-order (n + 1) desks given.1 (All-tail (λ (desk : Desk P). HasServed is_own shape known boxes desk v) d desks served))
 
+  -- the passes of desks that have served can be gathered
   pub are-over : (desks : List (Desk P)) → length desks ≡ seats → length shape.seats ≡ seats → AreGiven seats 1 desks → All (λ desk. HasServed is_own shape known boxes desk v) desks → AreOver is_own shape known desks
   are-over desks d s given served = record {
     own = λ k e lt. (served k e lt).own;
@@ -214,14 +199,17 @@ of-map {A} Q f [] h = All-nil (λ (x : A). Q (f x))
 of-map {A} Q f (x ∷ xs) h = All-cons (λ (y : A). Q (f y)) x xs (All-head Q (f x) (map f xs) h) (of-map Q f xs (All-tail Q (f x) (map f xs) h))
 
 module _ {P : Type 0} (known : P → Known) (desks : List (Desk P)) (passes : List P) (is : passes ≡ map (λ desk. desk.session.pass) desks) where
+  -- the passes that were kept are the hub's
   pub own-all : (is_own : P → Type 0) (shape : Shape) (r : Result Unit AllocError) → OnOk r (AreOver is_own shape known desks) → OnOk r (All is_own passes)
   own-all is_own shape (Err x) h = tt
   own-all is_own shape (Ok x) h = All-same is_own passes (map (λ (desk : Desk P). desk.session.pass) desks) is (All-map is_own (λ (desk : Desk P). desk.session.pass) desks h.own)
 
+  -- they are in the order of the seats
   pub order-all : (is_own : P → Type 0) (shape : Shape) (r : Result Unit AllocError) → OnOk r (AreOver is_own shape known desks) → OnOk r (map (λ pass. (known pass).session) passes ≡ range_with_len 1 (length shape.seats))
   order-all is_own shape (Err x) h = tt
   order-all is_own shape (Ok x) h = ap (λ (ps : List P). map (λ (pass : P). (known pass).session) ps) is ∙ twice (λ (pass : P). (known pass).session) (λ (desk : Desk P). desk.session.pass) desks ∙ h.order
 
+  -- what was gathered of them was gathered of the desks
   pub gathered-all : (r : Result Unit AllocError) → OnOk r ((count : ℕ) × Gathered (map known passes) count) → OnOk r (All (λ pass. IsWithin (known pass)) passes) → OnOk r (HasGathered known desks)
   gathered-all (Err x) g h = tt
   gathered-all (Ok x) g h = record {

@@ -56,6 +56,7 @@ run-over law shape section k items count gathered is number names out left =
       legal = subst (λ (s : Shape). Legal (record { sections = section ∷ []; flags = [] }) (settings_of s 1) gathered.journal (trace_of part ∷ [])) is legal;
     }
 
+-- a client's session that is over, whose pass was gathered, has run legally
 pub finished : {P : Type 0} → RunsAreLegal → (shape : Shape) (known : P → Known) (s : Session P) (passes : List P) (count : ℕ) → Gathered (map known passes) count → passes ≡ s.pass ∷ [] → IsWithin (known s.pass) → shape ≡ wire_shape
     → HasRest shape known s → s.doing ≡ Over → (known s.pass).mark ≡ None → s.section.no ≡ 1 → s.plan ≡ wire_plan → s.patience ≡ 1 → NamesNoFlags s.section → RunsLegally s.section s.items.items
 finished {P} law shape known s passes count gathered all within is rested over left number plan patience names =
@@ -243,12 +244,14 @@ stopped-known shape known end old new None held now is begun patience same stood
 stopped-known shape known end old new (Some bytes) held now is begun patience same stood answered asked written =
     stopped (Unit {0}) shape known end old new bytes held now is begun patience same stood answered (asked wire_quit (ap (λ (s : Section). s.lines) begun)) written
 
+-- a client that was served to its end is known to have been, where it is known what was left
 pub served-known : {P : Type 0} (old new : Session P) (left held now : Option (List ℕ)) → old.section ≡ session_section [] → IsSameClient old new
     → ((last : ScriptLine) → old.section.lines ≡ last ∷ [] → IfSome left (λ bytes. AsksAll bytes None last new.section)) → Appends held now (messages new.section new.items.items)
     → (NamesNoFlags new.section → RunsLegally new.section new.items.items) → IfSome left (λ bytes. EndsBy {T = Unit {0}} (Ok (tt {0})) bytes held now)
 served-known old new None held now begun same asked written runs = tt
 served-known old new (Some bytes) held now begun same asked written runs = served (Unit {0}) (tt {0}) old new bytes held now begun same (asked wire_quit (ap (λ (s : Section). s.lines) begun)) written runs
 
+-- and one whose service ended for want of memory was answered so far
 pub short-known : {P : Type 0} (shape : Shape) (known : P → Known) (old new : Session P) (left held now : Option (List ℕ)) → shape ≡ wire_shape → old.section ≡ session_section [] → old.patience ≡ 1
     → IsSameClient old new → HasStood shape known new → ((last : ScriptLine) → old.section.lines ≡ last ∷ [] → IfSome left (λ bytes. AsksAll bytes None last new.section))
     → Appends held now (messages new.section new.items.items) → IfSome left (λ bytes. EndsBy {T = Unit {0}} (Err Memory) bytes held now)
@@ -256,6 +259,7 @@ short-known shape known old new None held now is begun patience same stood asked
 short-known {P} shape known old new (Some bytes) held now is begun patience same stood asked written =
     served-short {P = P} (Unit {0}) shape known old new bytes held now is begun patience same stood (asked wire_quit (ap (λ (s : Section). s.lines) begun)) written
 
+-- of a client for which no session was opened nothing was written
 pub unopened-known : (left held : Option (List ℕ)) → IfSome left (λ bytes. EndsBy {T = Unit {0}} (Err Memory) bytes held held)
 unopened-known None held = tt
 unopened-known (Some bytes) held = not-opened (Unit {0}) bytes held

@@ -1,5 +1,7 @@
 pub mod RunLaws
 pub mod OverLaws
+-- what a run comes to, by how its input was read and answered
+mod CommandLaws
 pub mod AskedLaws
 pub mod LiveLaws
 -- a hub that is opened for one client

@@ -38,12 +38,14 @@ use Rattle.pgn_run.specs.Live.{AreLawfulLogs, EarlyOver, EndsOver, LiveOver, SoF
 
 -- Texts, one after another.
 
+-- what was written and then more is all of it written
 pub Appends-more : (old mid new : Option (List ℕ)) (first second : List ℕ) → Appends old mid first → Appends mid new second → Appends old new (first ++ second)
 Appends-more None mid new first second a b = tt
 Appends-more (Some xs) None new first second a b = absurd a
 Appends-more (Some xs) (Some ys) None first second a b = absurd b
 Appends-more (Some xs) (Some ys) (Some zs) first second a b = b ∙ ap (λ (t : List ℕ). t ++ second) a ∙ append_assoc xs first second
 
+-- what was written and then a prefix of more is a prefix of all of it
 pub Appends-prefix : (old mid new : Option (List ℕ)) (first second : List ℕ) → Appends old mid first → AppendsPrefix mid new second → AppendsPrefix old new (first ++ second)
 Appends-prefix None mid new first second a b = tt
 Appends-prefix (Some xs) None new first second a b = absurd a
@@ -151,6 +153,7 @@ lasts-next told traces i trace h k f =
     let second : drop i traces ≡ trace ∷ drop (i + 1) traces = drop-cons traces i trace k ∙ ap (λ (t : Trace). t ∷ drop (suc i) traces) (sym f) ∙ ap (λ (j : ℕ). trace ∷ drop j traces) (sym (add-one i)) in
     ap (λ (ns : List ℕ). lasts ns (drop i traces)) first ∙ ap (λ (ts : List Trace). lasts (n ∷ drop (i + 1) told) ts) second
 
+-- the lines that come last are those of one trace and then those of the traces behind it
 pub tagged-next : (sections : List Section) (told : List ℕ) (traces : List Trace) (i : ℕ) (trace : Trace) → i < length told → i < length traces → trace ≡ get_or traces i trace
     → tagged sections (lasts (drop i told) (drop i traces)) ≡ tagged sections (came_from trace.session (drop (get_or told i 0) trace.items) ∷ []) ++ tagged sections (lasts (drop (i + 1) told) (drop (i + 1) traces))
 tagged-next sections told traces i trace h k f =
@@ -161,6 +164,7 @@ no-lasts : (told : List ℕ) → lasts told [] ≡ []
 no-lasts [] = refl
 no-lasts (n ∷ told) = refl
 
+-- behind the last trace no lines come
 pub lasts-end : (sections : List Section) (told : List ℕ) (traces : List Trace) (i : ℕ) → min (length told) (length traces) ≤ i → tagged sections (lasts (drop i told) (drop i traces)) ≡ []
 lasts-end sections told traces i h = elim (cases_lt i (length told)) [
   | inl k ↦ ap (λ (ts : List Trace). tagged sections (lasts (drop i told) ts)) (drop_all i traces (omega arith)) ∙ ap (λ (cames : List Came). tagged sections cames) (no-lasts (drop i told))
@@ -223,6 +227,7 @@ module _ {Q : Type 0} (scenario : Scenario) (shape : Shape) (sessions : List (Se
     pub ends-done : status ≡ Done → EndsOver scenario shape sessions (Appends old new)
     ends-done e = ends-over (Appends old new) (outcome Done e)
 
+    -- after a write fault a prefix of what stands at the end of a live run was written
     pub ends-prefix : status ≡ WriteFault → EndsOver scenario shape sessions (AppendsPrefix old new)
     ends-prefix e = ends-over (AppendsPrefix old new) (outcome WriteFault e).0
 
@@ -268,20 +273,24 @@ logs-lawful {Q} shape settings plan patience (section ∷ sections) (s ∷ sessi
 
 module _ {Q : Type 0} (scenario : Scenario) (shape : Shape) (pages patience : ℕ) (format : Format) (new : List (Session Q)) (sound : IsSound scenario) (opened : shape ≡ shape_for scenario pages format)
     (scripts : map script_of new ≡ map (script_for (plan_for scenario) patience) scenario.sections) where
+  -- the sessions are still as they were opened for the scenario
   pub still-opened : AreOpenedFor scenario pages patience format shape new
   still-opened = record { sound = sound; opened = opened; scripts = scripts }
 
   sections-same : scenario.sections ≡ sections_of new
   sections-same = sections-are (plan_for scenario) patience scenario.sections new scripts
 
+  -- their sections are still numbered from 1
   pub still-numbered : AreNumbered 1 (sections_of new)
   still-numbered = subst (λ (sections : List Section). AreNumbered 1 sections) sections-same sound.numbered
 
+  -- they are still no more than 256
   pub still-few : length new ≤ 256
   still-few =
       let as_many : length scenario.sections ≡ length new = ap (λ (sections : List Section). length sections) sections-same ∙ length-map new (λ (s : Session Q). s.section) in
       omega (arith, as_many, sound.few)
 
+  -- their numbers are those of all seats
   pub all-numbers : map (λ s. s.section.no) new ≡ range_with_len 1 (length shape.seats)
   all-numbers =
       numbers-opened scenario (plan_for scenario) patience new sound scripts
@@ -296,6 +305,7 @@ module _ {Q : Type 0} (scenario : Scenario) (shape : Shape) (pages patience : �
   pub early-over : (P : List ℕ → Type 0) → All (IsLawful shape) new → ComesWhole scenario.sections (logs_of new) P → EarlyOver scenario (settings_with pages patience format) P
   early-over P lawful came = record { logs = logs_of new; cames = came.cames; lawful = all-lawful lawful; whole = came.whole; output = came.output }
 
+  -- lawful sessions of which the first items were shown are a live run so far
   pub so_far-over : (P : List ℕ → Type 0) → All (IsLawful shape) new → ComesFirst scenario.sections (logs_of new) P → SoFarOver scenario (settings_with pages patience format) P
   so_far-over P lawful came = record { logs = logs_of new; cames = came.cames; lawful = all-lawful lawful; first = came.first; output = came.output }
 

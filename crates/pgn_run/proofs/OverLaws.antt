@@ -25,9 +25,11 @@ module _ (print : Print) (scenario : Scenario) (settings : Settings) (journal : 
   outcome : (other : Status) → status ≡ other → HasWritten (printed print scenario journal traces) old new before now other
   outcome other e = subst (λ (s : Status). HasWritten (printed print scenario journal traces) old new before now s) e written
 
+  -- a run of which all was written is one of which it is known what was
   pub done-over : status ≡ Done → RunsOver print scenario settings (Appends old new)
   done-over e = record { journal = journal; traces = traces; legal = legal; output = outcome Done e }
 
+  -- and one with a write fault is one of which a prefix was
   pub prefix-over : status ≡ WriteFault → RunsOver print scenario settings (AppendsPrefix old new)
   prefix-over e = record { journal = journal; traces = traces; legal = legal; output = (outcome WriteFault e).0 }
 
@@ -131,17 +133,22 @@ own-drill status only = elim only [
   | inr other ↦ elim other [ inl e ↦ subst IsOfRun (sym e) tt | inr e ↦ subst IsOfRun (sym e) tt ]
 ]
 
+-- what ends a run is not that the words are no command
 pub not-bad-words : (status : Status) → (status ≡ Done) ⊎ (status ≡ WriteFault) ⊎ (status ≡ NoMemory) → status ≡ BadWords → ⊥
 not-bad-words status only e = elim only [ inl d ↦ cc | inr other ↦ elim other [ inl f ↦ cc | inr m ↦ cc ] ]
 
+-- nor that there is no scenario
 pub not-bad-scenario : (status : Status) (fault : ScenarioFault) → (status ≡ Done) ⊎ (status ≡ WriteFault) ⊎ (status ≡ NoMemory) → status ≡ BadScenario fault → ⊥
 not-bad-scenario status fault only e = elim only [ inl d ↦ cc | inr other ↦ elim other [ inl f ↦ cc | inr m ↦ cc ] ]
 
+-- nor that the source failed
 pub not-read-fault : (status : Status) → (status ≡ Done) ⊎ (status ≡ WriteFault) ⊎ (status ≡ NoMemory) → status ≡ ReadFault → ⊥
 not-read-fault status only e = elim only [ inl d ↦ cc | inr other ↦ elim other [ inl f ↦ cc | inr m ↦ cc ] ]
 
+-- nor what a client of the wire sent
 pub not-bad-wire : (status : Status) (fault : WireFault) → (status ≡ Done) ⊎ (status ≡ WriteFault) ⊎ (status ≡ NoMemory) → status ≡ BadWire fault → ⊥
 not-bad-wire status fault only e = elim only [ inl d ↦ cc | inr other ↦ elim other [ inl f ↦ cc | inr m ↦ cc ] ]
 
+-- nor what clients of seats sent
 pub not-bad-frame : (status : Status) (fault : FrameFault) → (status ≡ Done) ⊎ (status ≡ WriteFault) ⊎ (status ≡ NoMemory) → status ≡ BadFrame fault → ⊥
 not-bad-frame status fault only e = elim only [ inl d ↦ cc | inr other ↦ elim other [ inl f ↦ cc | inr m ↦ cc ] ]

@@ -1,9 +1,9 @@
 -- An input is parted at its first line `\output`.
-use Rattle.std.proofs.Common.{◌≡◌, ℕ, suc, ◌+◌, ◌<◌, ◌≤◌, Bool, true, false, not, cond, List, [], ◌∷◌, ◌++◌, length, get_or, take, drop, Option, None, Some, sym, ap, ◌∙◌, refl, arith, add-one, append_assoc, append-nil, codes}
+use Rattle.std.proofs.Common.{◌≡◌, ℕ, suc, ◌+◌, ◌<◌, Bool, true, false, not, cond, List, [], ◌∷◌, ◌++◌, length, get_or, take, drop, Option, None, Some, sym, ap, ◌∙◌, refl, arith, add-one, append_assoc, codes}
 use Rattle.std.specs.Prelude.{option_map}
 use Rattle.std.specs.List.{after_first, before_first, position_or_len}
 use Rattle.std.specs.Str.{bytes_eq}
-use Rattle.std.proofs.lemmas.List.{drop-drop, drop_all}
+use Rattle.std.proofs.lemmas.List.{drop-drop}
 use Rattle.std.proofs.lemmas.List.Sums.{position_or_len_is}
 use Rattle.std.proofs.Math.Seq.{take-add}
 use Rattle.memchr.specs.Find.{NoneBefore, Nowhere, Passes, is_byte}
@@ -73,24 +73,13 @@ begins-on [] e = refl
 begins-on (byte ∷ bytes) e =
     ap (λ (b : Bool). cond b (Some (record { scenario = []; output = after_first ends_line (byte ∷ bytes) })) (option_map (with_byte byte) (parts_from (ends_line byte) bytes))) e
 
-begins-here : (text : List ℕ) → 0 < length text → begins_output text ≡ true → parts_from true text ≡ Some (record { scenario = []; output = after_first ends_line text })
-begins-here [] some e = absurd (omega (arith, some))
-begins-here (byte ∷ bytes) some e =
-    ap (λ (b : Bool). cond b (Some (record { scenario = []; output = after_first ends_line (byte ∷ bytes) })) (option_map (with_byte byte) (parts_from (ends_line byte) bytes))) e
-
 -- The search for the line, from one line to the next.
 
 -- what stands before this place has no such line
 abbrev pub IsBehind : List ℕ → ℕ → Type 0
 IsBehind input at = parts_of input ≡ option_map (with_bytes (take at input)) (parts_from true (drop at input))
 
-pub behind-none : (input : List ℕ) → IsBehind input 0
-behind-none input = go (parts_from true input)
-  where
-    go : (o : Option Parts) → o ≡ option_map (with_bytes []) o
-    go None = refl
-    go (Some parts) = refl
-
+-- where the line behind so many bytes is not the one between the parts it is behind the next line, if at all
 pub behind-next : (input : List ℕ) (at n : ℕ) → n ≡ position_or_len ends_line (drop at input) → begins_output (drop at input) ≡ false → IsBehind input at → IsBehind input (at + (n + 1))
 behind-next input at n e other h =
     let text : List ℕ = drop at input in
@@ -104,28 +93,19 @@ behind-next input at n e other h =
     ∙ ap (λ (t : List ℕ). option_map (with_bytes t) (parts_from true (rest_of text))) (sym front)
     ∙ ap (λ (t : List ℕ). option_map (with_bytes (take (at + (n + 1)) input)) (parts_from true t)) (sym back)
 
--- the line stands here
-pub behind-found : (input : List ℕ) (at : ℕ) → 0 < length (drop at input) → begins_output (drop at input) ≡ true → IsBehind input at
-    → parts_of input ≡ Some (record { scenario = take at input; output = after_first ends_line (drop at input) })
-behind-found input at some e h =
-    h ∙ ap (λ (o : Option Parts). option_map (with_bytes (take at input)) o) (begins-here (drop at input) some e)
-    ∙ ap (λ (scenario : List ℕ). let p : Option Parts = Some (record { scenario = scenario; output = after_first ends_line (drop at input) }) in p) (append-nil (take at input))
-
--- nothing is left
-pub behind-all : (input : List ℕ) (at : ℕ) → length input ≤ at → IsBehind input at → parts_of input ≡ None
-behind-all input at past h = h ∙ ap (λ (t : List ℕ). option_map (with_bytes (take at input)) (parts_from true t)) (drop_all at input past)
-
 -- Where a line ends.
 
 not-end : (b : Bool) → (b ≡ true → ⊥) → b ≡ false
 not-end true = λ no. absurd (no refl)
 not-end false = λ no. refl
 
+-- the first line ends where the first line feed was found
 pub line-ends : (text : List ℕ) (at : ℕ) → NoneBefore (Passes (is_byte 10) text) 0 (length text) at → Passes (is_byte 10) text at → position_or_len ends_line text ≡ at
 line-ends text at h here =
     let within : at < length text = h.high in
     position_or_len_is ends_line text at 0 (omega (arith, within)) (λ k below. not-end (ends_line (get_or text k 0)) (h.before k (omega arith) below)) (λ _. here)
 
+-- where no line feed was found the whole text is one line
 pub line-has-no-end : (text : List ℕ) → Nowhere (Passes (is_byte 10) text) 0 (length text) → position_or_len ends_line text ≡ length text
 line-has-no-end text h =
     position_or_len_is ends_line text (length text) 0 (omega arith) (λ k below. not-end (ends_line (get_or text k 0)) (h k (omega arith) below)) (λ less. absurd (omega (arith, less)))

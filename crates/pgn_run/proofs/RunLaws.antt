@@ -104,21 +104,27 @@ module _ (shows : Shows) (settings : Settings) (left : Option (List ℕ)) (input
   answered : (other : Status) → status ≡ other → Answers shows settings input old new before now other
   answered other e = subst (λ (s : Status). Answers shows settings input old new before now s) e answers
 
+  -- a run that is done is one of what was left, and all of it is shown
   pub done-runs : status ≡ Done → IfSome left (λ xs. Shown shows settings xs (Appends old new))
   done-runs e = if-some left (λ xs. input ≡ take 16777217 xs) (λ xs. Shown shows settings xs (Appends old new)) (λ xs b. shown-whole shows settings xs input (Appends old new) b (answered Done e)) bytes
 
+  -- after a write fault a prefix of what is shown of it stands written
   pub write-fault-runs : status ≡ WriteFault → IfSome left (λ xs. ShownInPart shows settings xs (AppendsPrefix old new))
   write-fault-runs e = if-some left (λ xs. input ≡ take 16777217 xs) (λ xs. ShownInPart shows settings xs (AppendsPrefix old new)) (λ xs b. part-whole shows settings xs input (AppendsPrefix old new) b (answered WriteFault e).0) bytes
 
+  -- where memory did not suffice for a run that is shown at its end nothing was written
   pub memory-nothing : (print : Print) → shows ≡ AtEnd print → status ≡ NoMemory → new ≡ old
   memory-nothing print once e = let known : IsShownSoFar (AtEnd print) settings input old new = subst (λ (s : Shows). IsShownSoFar s settings input old new) once (answered NoMemory e) in known
 
+  -- and of a live one at most what comes first
   pub memory-shows : status ≡ NoMemory → (new ≡ old) ⊎ IfSome left (λ xs. IsShownSoFar shows settings xs old new)
   memory-shows e = inr (if-some left (λ xs. input ≡ take 16777217 xs) (λ xs. IsShownSoFar shows settings xs old new) (λ xs b. so_far-shown-whole shows settings xs input old new b (answered NoMemory e)) bytes)
 
+  -- a scenario at fault is what was left
   pub bad-scenario-reads : (fault : ScenarioFault) → status ≡ BadScenario fault → IfSome left (λ xs. ReadsAsScenario xs (Err fault))
   bad-scenario-reads fault e = if-some left (λ xs. input ≡ take 16777217 xs) (λ xs. ReadsAsScenario xs (Err fault)) (λ xs b. reads-whole xs input (Err fault) b (answered (BadScenario fault) e).0) bytes
 
+  -- an answer to an input is an outcome that `run` may have
   pub own-run : IsOfRun status
   own-run = go status answers
     where
@@ -135,6 +141,7 @@ module _ (shows : Shows) (settings : Settings) (left : Option (List ℕ)) (input
       go NoOutput h = h
       go CheckTooLarge h = h
 
+  -- where a run is done the source is at its end
   pub done-at-end : (rest : Option (List ℕ)) → Consumes left rest input → status ≡ Done → OnSome left (IsAtEnd rest)
   done-at-end rest consumed e = with left rest bytes consumed
     where

@@ -7,7 +7,6 @@ use Rattle.pgn_model.specs.declared.trace.Trace.{Trace}
 use Rattle.pgn_journal.specs.Journal.{next_xid}
 use Rattle.pgn_model.specs.Legal.{IsFullThere, IsShownWithin, Legal}
 use Rattle.pgn_model.specs.Walk.{start}
-use Rattle.pgn_turns.specs.declared.asked.Ask.{Ask}
 use Rattle.pgn_turns.specs.declared.asked.Ask.TheVariants.{Query}
 use Rattle.pgn_turns.specs.Asks.{seat_quit}
 use Rattle.pgn_turns.specs.Examples.{idle_items, listen, sent_by}
@@ -40,9 +39,11 @@ other-item (a ∷ b ∷ c ∷ d ∷ x ∷ items) more e =
     let long : 5 ≡ length (a ∷ b ∷ c ∷ d ∷ x ∷ items) + length (quit-item ∷ more) = ap (λ (l : List Item). length l) e ∙ length-append (a ∷ b ∷ c ∷ d ∷ x ∷ items) (quit-item ∷ more) in
     absurd (omega (arith, long))
 
+-- what one may be told of the first items of an idle seat is told of its whole trace
 pub told-idle : (signs : List (Option ℕ)) → MayBeTold 1 (Query listen ∷ []) idle_items signs → IsToldOf 1 (Query listen ∷ []) (idle_items ++ quit-item ∷ []) signs
 told-idle signs h = record { items = idle_items; more = []; split = refl; unread = All-nil (λ (item : Item). IsRead item → ⊥); told = h }
 
+-- and nothing else is
 pub only-idle : (signs : List (Option ℕ)) → IsToldOf 1 (Query listen ∷ []) (idle_items ++ quit-item ∷ []) signs → MayBeTold 1 (Query listen ∷ []) idle_items signs
 only-idle signs h = subst (λ (items : List Item). MayBeTold 1 (Query listen ∷ []) items signs) (other-item h.items h.more h.split) h.told
 
@@ -62,9 +63,6 @@ no-read_behind h = at h.items h.more h.split h.unread
 -- one seat
 one-seat : (seat : ℕ) → IsSeat 1 seat → seat ≡ 1
 one-seat seat is = let l : 1 ≤ seat = is.least in let m : seat ≤ 1 = is.most in omega (arith, l, m)
-
-no-asks : List (List Ask)
-no-asks = [] ∷ []
 
 asked-nothing : (seat : ℕ) → IsSeat 1 seat → SeatAsks (first_tally (seat_notes 1)) (signs_of seat []) (asks_at ([] ∷ []) seat)
 asked-nothing seat is = subst (λ (n : ℕ). SeatAsks (first_tally (seat_notes 1)) [] (asks_at ([] ∷ []) n)) (sym (one-seat seat is)) (SeatAsks.Last (first_tally (seat_notes 1)) [] [] [] Open refl (ClientAsks.Stops (first_tally (seat_notes 1)) [] refl))
@@ -86,6 +84,7 @@ quit-legal = record {
   read_all = All-cons (λ (t : Trace). IfSome t.last (λ mark. mark ≡ next_xid [])) quits [] tt (All-nil (λ (t : Trace). IfSome t.last (λ mark. mark ≡ next_xid [])));
 }
 
+-- a service of one seat that is sent nothing may tell nothing
 pub runs-nothing : RunsSeats 1 [] (λ text. text ≡ [])
 runs-nothing = record {
   asks = [] ∷ [];
@@ -110,6 +109,7 @@ whole-frames (f ∷ outs) text e = inr (omega (arith, ap (λ (l : List ℕ). len
     head-length : (g : Frame) → 4 ≤ length (frame_bytes g)
     head-length g = search rules
 
+-- it tells no half of a frame
 pub no-half_frame : RunsSeats 1 [] (λ text. text ≡ 0 ∷ 1 ∷ 0 ∷ []) → ⊥
 no-half_frame h =
     elim (whole-frames h.outs (0 ∷ 1 ∷ 0 ∷ []) h.output) [
@@ -144,12 +144,15 @@ stops-with Q output = record {
   output = output;
 }
 
+-- a service that ends before its input may have told nothing
 pub stops-empty : StopsServing 1 [] (λ text. text ≡ [])
 stops-empty = stops-with (λ text. text ≡ []) (inl refl)
 
+-- or that it is over
 pub stops-told : StopsServing 1 [] (λ text. text ≡ 0 ∷ 0 ∷ 0 ∷ 0 ∷ [])
 stops-told = stops-with (λ text. text ≡ 0 ∷ 0 ∷ 0 ∷ 0 ∷ []) (inr refl)
 
+-- but no half of that
 pub no-half_over : StopsServing 1 [] (λ text. text ≡ 0 ∷ 0 ∷ []) → ⊥
 no-half_over h =
     elim h.output [

@@ -1,9 +1,7 @@
 -- What is opened for the seats of a service.
-use Rattle.std.proofs.Common.{◌≡◌, ℕ, zero, suc, ◌+◌, ◌-◌, ◌*◌, ◌/◌, ◌<◌, ◌≤◌, List, [], ◌∷◌, ◌++◌, length, map, drop, get_or, replicate, All, Option, sum_by, sym, ap, ◌∙◌, refl, subst, arith, append-nil, append_assoc, length-append}
+use Rattle.std.proofs.Common.{◌≡◌, ℕ, zero, suc, ◌+◌, ◌-◌, ◌<◌, ◌≤◌, List, [], ◌∷◌, ◌++◌, length, map, drop, get_or, replicate, All, Option, sym, ap, ◌∙◌, refl, subst, arith, append_assoc, length-append}
 use Rattle.std.proofs.lemmas.List.{length-map, length-replicate}
 use Rattle.std.proofs.lemmas.List.Elements.{All-cons, All-nil}
-use Rattle.std.proofs.lemmas.List.Folds.{sum_by-replicate}
-use Rattle.pgn_base.specs.declared.limits.TheConstants.{HUB_NOTES_MAX}
 use Rattle.pgn_hub.specs.declared.known.Known.{Known}
 use Rattle.pgn_hub.specs.declared.setup.SeatSetup.{SeatSetup}
 use Rattle.pgn_hub.specs.Passes.{opened_pass, opened_passes}
@@ -15,11 +13,9 @@ use Rattle.pgn_outlet.specs.declared.outlet.Outlet.{Outlet}
 use Rattle.pgn_outlet.specs.declared.hand.Hand.{Hand}
 use Rattle.pgn_outlet.specs.Passes.{IsPassOf, Pass, knows}
 use Rattle.pgn_outlet.specs.Rule.{sender}
-use Rattle.pgn_session.specs.declared.doing.Doing.TheVariants.{Lines}
 use Rattle.pgn_session.specs.declared.doing.FlagPlan.{FlagPlan}
 use Rattle.pgn_session.specs.declared.session.Session.{Session}
 use Rattle.pgn_session.specs.Standing.{IsFlagBelow, IsServedBy}
-use Rattle.pgn_session.specs.Whole.{HasRest}
 use Rattle.pgn_turns.specs.declared.asked.Ask.{Ask}
 use Rattle.pgn_requests.specs.Settings.{fresh}
 use Rattle.pgn_turns.specs.Asks.{seat_quit}
@@ -27,18 +23,8 @@ use Rattle.pgn_seats.specs.declared.desk.Desk.{Desk}
 use Rattle.pgn_seats.specs.Desks.{MayBegin, MayServe, sections_of}
 use Rattle.pgn_frames.specs.declared.caller.Caller.{Caller}
 use Rattle.pgn_frames.specs.Reading.{Begins, MayCall}
-use Rattle.pgn_run.specs.Service.{seat_notes, seat_section}
-use Rattle.pgn_run.specs.Seats.{AreGiven, AreNewSeats, AreSeated, GivesInbox, IsGiven, IsNewSeat, IsNewSession, IsOpened, SitsMore, service_plan, service_seat, service_shape}
-
--- All seats together send no more than a hub lets.
-pub few-notes : (seats : ℕ) (setups : List SeatSetup) → 1 ≤ seats → setups ≡ (service_shape seats).seats → sum_by (λ seat. seat.notes) setups ≤ HUB_NOTES_MAX
-few-notes seats setups some e =
-    let all : sum_by (λ (seat : SeatSetup). seat.notes) setups ≡ seats * (HUB_NOTES_MAX / seats) =
-    ap (λ (s : List SeatSetup). sum_by (λ (seat : SeatSetup). seat.notes) s) e ∙ sum_by-replicate (λ (seat : SeatSetup). seat.notes) seats (service_seat seats) in
-    omega (arith, all, part HUB_NOTES_MAX seats some)
-  where
-    part : (n k : ℕ) → 1 ≤ k → k * (n / k) ≤ n
-    part n k some = omega (arith, some)
+use Rattle.pgn_run.specs.Service.{seat_notes}
+use Rattle.pgn_run.specs.Seats.{AreGiven, AreNewSeats, GivesInbox, IsGiven, IsNewSeat, IsNewSession, IsOpened, SitsMore, service_seat, service_shape}
 
 pub seat-count : (seats : ℕ) (setups : List SeatSetup) → setups ≡ (service_shape seats).seats → length setups ≡ seats
 seat-count seats setups e = ap (λ (s : List SeatSetup). length s) e ∙ length-replicate seats (service_seat seats)
@@ -51,19 +37,13 @@ pub record AreLeft {P : Type 0} (known : P → Known) (seats place : ℕ) (left 
   pub count : place + more ≡ seats
   pub are : map known left ≡ opened_passes (place + 1) (replicate more (service_seat seats))
 
-pub all-left : {P : Type 0} (known : P → Known) (seats : ℕ) (passes : List P) → map known passes ≡ opened_passes 1 (service_shape seats).seats → AreLeft known seats 0 passes
-all-left known seats passes e = record { more = seats; count = (let none : 0 + seats ≡ seats = omega arith in none); are = e }
-
 opened-length : (n : ℕ) (setups : List SeatSetup) → length (opened_passes n setups) ≡ length setups
 opened-length n [] = refl
 opened-length n (setup ∷ setups) = ap suc (opened-length (n + 1) setups)
 
+-- a hub that was opened for a service has given a pass for each seat
 pub passes-count : {P : Type 0} (known : P → Known) (seats : ℕ) (passes : List P) (setups : List SeatSetup) → map known passes ≡ opened_passes 1 setups → setups ≡ (service_shape seats).seats → length passes ≡ seats
 passes-count known seats passes setups e is = omega (arith, length-map passes known, ap (λ (ks : List Known). length ks) e, opened-length 1 setups, seat-count seats setups is)
-
-pub one-left : {P : Type 0} (known : P → Known) (seats place : ℕ) (left : List P) → place < seats → AreLeft known seats place left → 0 < length left
-one-left known seats place left lt h =
-    omega (arith, lt, h.count, length-map left known, ap (λ (ks : List Known). length ks) h.are, opened-length (place + 1) (replicate h.more (service_seat seats)), length-replicate h.more (service_seat seats))
 
 next-left : {P : Type 0} (known : P → Known) (seats place : ℕ) (pass : P) (rest : List P) (more : ℕ) → place < seats → place + more ≡ seats → map known (pass ∷ rest) ≡ opened_passes (place + 1) (replicate more (service_seat seats))
     → (known pass ≡ opened_pass (place + 1) (service_seat seats)) × AreLeft known seats (place + 1) rest
@@ -73,31 +53,14 @@ next-left known seats place pass rest (suc more) lt count e = (
   record { more = more; count = omega (arith, count); are = ap (λ (ks : List Known). drop 1 ks) e },
 )
 
-pub is-next : {P : Type 0} (known : P → Known) (seats place : ℕ) (left : List P) (pass : P) (rest : List P) → place < seats → left ≡ pass ∷ rest → AreLeft known seats place left → known pass ≡ opened_pass (place + 1) (service_seat seats)
-is-next {P} known seats place left pass rest lt e h = (next-left known seats place pass rest h.more lt h.count (ap (λ (ps : List P). map known ps) (sym e) ∙ h.are)).0
-
 pub rest-left : {P : Type 0} (known : P → Known) (seats place : ℕ) (left : List P) (pass : P) (rest : List P) → place < seats → left ≡ pass ∷ rest → AreLeft known seats place left → AreLeft known seats (place + 1) rest
 rest-left {P} known seats place left pass rest lt e h = (next-left known seats place pass rest h.more lt h.count (ap (λ (ps : List P). map known ps) (sym e) ∙ h.are)).1
 
 -- A session of a seat.
 
-pub new-session : {P : Type 0} (known : P → Known) (seats seat : ℕ) (pass : P) (s : Session P) (section : Section) (plan : FlagPlan) → section ≡ seat_section seats seat (seat_quit ∷ []) → plan ≡ service_plan seats
-    → s.pass ≡ pass → s.section ≡ section → s.plan ≡ plan → s.patience ≡ 1 → s.done ≡ 0 → s.doing ≡ Lines → s.items.items ≡ [] → ((shape : Shape) → HasRest shape known s) → IsNewSession known seats seat pass s
-new-session known seats seat pass s section plan e f has of_section of_plan patience begun between shown rested =
-    let whole : s.section ≡ seat_section seats seat (seat_quit ∷ []) = of_section ∙ e in
-    let lines : s.section.lines ≡ seat_quit ∷ [] = ap (λ (x : Section). x.lines) whole in
-    record {
-      has = has;
-      given = record { section = whole ∙ ap (λ (ls : List ScriptLine). seat_section seats seat ls) (sym lines); plan = of_plan ∙ f; patience = patience };
-      script = lines;
-      begun = begun;
-      between = between;
-      shown = shown;
-      rested = rested;
-    }
-
 -- One seat more.
 
+-- a session that has a new inbox's passes at its desk and its caller has got a seat behind the others
 pub sits-more : {P : Type 0} (most : ℕ) (session : Session P) (boxes boxes_one : List (Outlet (Option Ask))) (desks desks_one : List (Desk P)) (callers callers_one : List Caller) (put asks : Pass (Option Ask)) (desk : Desk P) (caller : Caller)
     → GivesInbox boxes boxes_one put asks → desk.session ≡ session → desk.asks ≡ asks → desk.notes ≡ 0 → desk.settings ≡ fresh → desks_one ≡ desks ++ desk ∷ [] → callers_one ≡ callers ++ caller ∷ []
     → ((seat : ℕ) (inbox : Outlet (Option Ask)) → IsPassOf inbox put → Begins most seat inbox caller) → SitsMore most session boxes boxes_one desks desks_one callers callers_one
@@ -137,19 +100,7 @@ pub record HaveSeated {P : Type 0} (known : P → Known) (seats place : ℕ) (al
   pub rest : AreLeft known seats place left
   pub seated : AreNewSeats known seats 1 first boxes desks callers
 
-pub none-seated : {P : Type 0} (known : P → Known) (seats : ℕ) (all : List P) (boxes : List (Outlet (Option Ask))) (desks : List (Desk P)) (callers : List Caller) → map known all ≡ opened_passes 1 (service_shape seats).seats
-    → boxes ≡ [] → desks ≡ [] → callers ≡ [] → HaveSeated known seats 0 all all boxes desks callers
-none-seated {P} known seats all boxes desks callers e b d c = record {
-  first = [];
-  whole = refl;
-  count = refl;
-  rest = all-left known seats all e;
-  seated =
-      subst (λ (x : List (Outlet (Option Ask))). AreNewSeats known seats 1 [] x desks callers) (sym b)
-      (subst (λ (x : List (Desk P)). AreNewSeats known seats 1 [] [] x callers) (sym d)
-      (subst (λ (x : List Caller). AreNewSeats known seats 1 [] [] [] x) (sym c) tt));
-}
-
+-- where the first seats are there and one more is, with the next pass, one seat more is there
 pub one-seated : {P : Type 0} (known : P → Known) (seats place : ℕ) (all left : List P) (boxes boxes_one : List (Outlet (Option Ask))) (desks desks_one : List (Desk P)) (callers callers_one : List Caller) (pass : P) (rest : List P) (s : Session P)
     → place < seats → left ≡ pass ∷ rest → HaveSeated known seats place all left boxes desks callers → IsNewSession known seats (place + 1) pass s
     → SitsMore (seat_notes seats) s boxes boxes_one desks desks_one callers callers_one → HaveSeated known seats (place + 1) all rest boxes_one desks_one callers_one
@@ -168,16 +119,6 @@ one-seated {P} known seats place all left boxes boxes_one desks desks_one caller
         seated = let one = sits.seat (place + 1) in record { has = refl; own = one.own; takes = one.takes; counted = one.counted; unset = one.unset; calls = one.calls };
       }))));
 }
-
-pub all-seated : {P : Type 0} (known : P → Known) (seats place : ℕ) (all left : List P) (boxes : List (Outlet (Option Ask))) (desks : List (Desk P)) (callers : List Caller) → seats ≤ place → HaveSeated known seats place all left boxes desks callers
-    → AreSeated known seats all boxes desks callers
-all-seated {P} known seats place all left boxes desks callers past h =
-    let nothing : left ≡ [] = none left (omega (arith, past, h.rest.count, length-map left known, ap (λ (ks : List Known). length ks) h.rest.are, opened-length (place + 1) (replicate h.rest.more (service_seat seats)), length-replicate h.rest.more (service_seat seats))) in
-    subst (λ (ps : List P). AreNewSeats known seats 1 ps boxes desks callers) (sym (append-nil h.first) ∙ ap (λ (ps : List P). h.first ++ ps) (sym nothing) ∙ h.whole) h.seated
-  where
-    none : (ps : List P) → length ps ≡ 0 → ps ≡ []
-    none [] e = refl
-    none (p ∷ ps) e = absurd (omega (arith, e))
 
 -- What an opened service has at each seat.
 record SeatAt {P : Type 0} (known : P → Known) (seats n k : ℕ) (ps : List P) (is : List (Outlet (Option Ask))) (ds : List (Desk P)) (cs : List Caller) : Type 0 where
@@ -273,15 +214,19 @@ module _ {P : Type 0} (is_own : P → Type 0) (shape : Shape) (known : P → Kno
   all-counts : (length boxes ≡ seats) × (length desks ≡ seats) × (length callers ≡ seats)
   all-counts = let c = counts known seats 1 h.passes boxes desks callers h.seated in (c.0 ∙ h.count, c.1 ∙ h.count, c.2 ∙ h.count)
 
+  -- there are as many inboxes as seats
   pub box-count : length boxes ≡ seats
   box-count = all-counts.0
 
+  -- there are as many desks
   pub desk-count : length desks ≡ seats
   desk-count = all-counts.1
 
+  -- there are as many callers
   pub caller-count : length callers ≡ seats
   caller-count = all-counts.2
 
+  -- the desks have what they were given
   pub opened-given : AreGiven seats 1 desks
   opened-given = new-given known seats 1 h.passes boxes desks callers h.seated
 
@@ -309,6 +254,7 @@ module _ {P : Type 0} (is_own : P → Type 0) (shape : Shape) (known : P → Kno
         fresh = s.seat.seated.unset;
       }
 
+  -- the desks of at most 256 seats may serve
   pub may-serve : seats ≤ 256 → MayServe is_own shape known boxes desks sender
   may-serve few = record {
     begin = λ k d lt.
@@ -319,6 +265,7 @@ module _ {P : Type 0} (is_own : P → Type 0) (shape : Shape) (known : P → Kno
     unused = refl;
   }
 
+  -- their callers may call
   pub may-call : seats ≤ 256 → MayCall (seat_notes seats) boxes callers
   may-call few = record {
     each = all-counts.0 ∙ sym all-counts.2;
@@ -331,8 +278,10 @@ module _ {P : Type 0} (is_own : P → Type 0) (shape : Shape) (known : P → Kno
         (subst (λ (x : Caller). Begins (seat_notes seats) (1 + k) s.inbox x) (sym (s.caller_is c)) s.seat.seated.calls));
   }
 
+  -- the hub has a seat for each
   pub seat-length : length shape.seats ≡ seats
   seat-length = ap (λ (x : Shape). length x.seats) h.shape_is ∙ length-replicate seats (service_seat seats)
 
+  -- and so for each caller
   pub as-many-seats : length shape.seats ≡ length callers
   as-many-seats = seat-length ∙ sym all-counts.2

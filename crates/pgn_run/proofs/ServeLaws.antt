@@ -19,18 +19,23 @@ module _ (seats : ℕ) (left old new : Option (List ℕ)) (status : Status) (ans
   answered : (other : Status) → status ≡ other → IfSome left (λ bytes. AnswersServe seats bytes old new other)
   answered other e = subst (λ (s : Status). IfSome left (λ bytes. AnswersServe seats bytes old new s)) e answers
 
+  -- a service that is done has served all frames of what was left
   pub done-serve : status ≡ Done → IfSome left (λ bytes. ServesAll seats bytes None (Appends old new))
   done-serve e = answered Done e
 
+  -- one whose input is at fault has served all frames before
   pub bad-serve : (fault : FrameFault) → status ≡ BadFrame fault → IfSome left (λ bytes. ServesAll seats bytes (Some fault) (Appends old new))
   bad-serve fault e = answered (BadFrame fault) e
 
+  -- after a write fault a prefix of what was told stands written
   pub write-serve : status ≡ WriteFault → IfSome left (λ bytes. ServesInPart seats bytes (AppendsPrefix old new))
   write-serve e = answered WriteFault e
 
+  -- after a read fault the frames that were read were served
   pub read-serve : (asked : ℕ) → asked ≡ seats → status ≡ ReadFault → IfSome left (λ bytes. ServesFirst asked bytes (Appends old new))
   read-serve asked same e = subst (λ (n : ℕ). IfSome left (λ bytes. ServesFirst n bytes (Appends old new))) (sym same) (answered ReadFault e)
 
+  -- where memory did not suffice whole turns were told, or nothing
   pub memory-serve : (asked : ℕ) → asked ≡ seats → status ≡ NoMemory → (new ≡ old) ⊎ IfSome left (λ bytes. StopsServing asked bytes (Appends old new))
   memory-serve asked same e = subst (λ (n : ℕ). (new ≡ old) ⊎ IfSome left (λ bytes. StopsServing n bytes (Appends old new))) (sym same) (either left (answered NoMemory e))
     where
@@ -59,6 +64,7 @@ refused seats (Some bytes) old new (BadFrame other) fault Reads Writes answers e
     let faults : other ≡ fault = cc in
     inl (ap BadFrame faults)
 
+-- an input at fault is refused, where nothing fails, or memory does not suffice
 pub serve-refused : (asked seats : ℕ) (left old new : Option (List ℕ)) (status : Status) (fault : FrameFault) (Reads Writes : Type 0) → asked ≡ seats → IfSome left (λ bytes. AnswersServe seats bytes old new status)
     → IsSomeAnd left (λ bytes. HasFrames asked bytes (Some fault)) → (status ≡ ReadFault → Reads) → (status ≡ WriteFault → Writes) → ¬ Reads → ¬ Writes → (status ≡ BadFrame fault) ⊎ (status ≡ NoMemory)
 serve-refused asked seats left old new status fault Reads Writes same answers ends read write no_read no_write =
@@ -82,6 +88,7 @@ completes seats (Some bytes) old new (BadFrame other) Reads Writes answers ends 
     let same : Some other ≡ None = one-end seats bytes answers.frames (Some other) None answers.are ends in
     absurd (cc)
 
+-- an input without a fault is served to its end, where nothing fails, or memory does not suffice
 pub serve-completes : (asked seats : ℕ) (left old new : Option (List ℕ)) (status : Status) (Reads Writes : Type 0) → asked ≡ seats → IfSome left (λ bytes. AnswersServe seats bytes old new status)
     → IsSomeAnd left (λ bytes. HasFrames asked bytes None) → (status ≡ ReadFault → Reads) → (status ≡ WriteFault → Writes) → ¬ Reads → ¬ Writes → (status ≡ Done) ⊎ (status ≡ NoMemory)
 serve-completes asked seats left old new status Reads Writes same answers ends read write no_read no_write =

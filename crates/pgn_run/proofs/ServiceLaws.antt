@@ -528,6 +528,7 @@ ends-known is_own shape known seats boxes old desks old_callers callers held fau
 ends-known is_own shape known seats boxes old desks old_callers callers held faults sink sink_now (Some bytes) so_far served ran res few opened told count read took law fine gathered =
     ends is_own shape known seats boxes old desks old_callers callers held faults sink sink_now served few opened count took law bytes so_far told ran res read fine gathered
 
+-- a service that was not opened has told nothing
 pub unopened : (left held : Option (List ℕ)) (seats : ℕ) → IfSome left (λ bytes. EndsService {T = Unit {0}} seats (Err end.Memory) bytes held held)
 unopened None held seats = tt
 unopened (Some bytes) held seats = inl refl
@@ -535,6 +536,7 @@ unopened (Some bytes) held seats = inl refl
 -- Causes.
 
 module _ {A B E : Type 0} where
+  -- a service that ends by a read fault has a reader that failed
   pub read-cause : (so_far : Result A Failed) (ran : Result B E) (res : Result (Option FrameFault) NoFrame) → end_of so_far ran res ≡ Err end.Read → res ≡ Err none.Failed
   read-cause (Err d) ran res e = absurd (let bad : Err end.Write ≡ Err end.Read = e in cc)
   read-cause (Ok a) (Err x) res e = absurd (let bad : Err end.Memory ≡ Err end.Read = e in cc)
@@ -543,6 +545,7 @@ module _ {A B E : Type 0} where
   read-cause (Ok a) (Ok b) (Ok (Some fault)) e = absurd (let bad : Err (end.Bad fault) ≡ Err end.Read = e in cc)
   read-cause (Ok a) (Ok b) (Ok None) e = absurd (let bad : Ok tt ≡ Err end.Read = e in cc)
 
+  -- one that ends by a write fault has raised the sink's count
   pub write-cause : (before now : ℕ) (so_far : Result A Failed) (ran : Result B E) (res : Result (Option FrameFault) NoFrame) → HasCause before now so_far → end_of so_far ran res ≡ Err end.Write → Rose before now
   write-cause before now (Err d) ran res cause e = cause.failed
   write-cause before now (Ok a) (Err x) res cause e = absurd (let bad : Err end.Memory ≡ Err end.Write = e in cc)
@@ -551,10 +554,12 @@ module _ {A B E : Type 0} where
   write-cause before now (Ok a) (Ok b) (Ok (Some fault)) cause e = absurd (let bad : Err (end.Bad fault) ≡ Err end.Write = e in cc)
   write-cause before now (Ok a) (Ok b) (Ok None) cause e = absurd (let bad : Ok tt ≡ Err end.Write = e in cc)
 
+  -- and where that count was raised it ends so
   pub write-due : (before now : ℕ) (so_far : Result A Failed) (ran : Result B E) (res : Result (Option FrameFault) NoFrame) → HasCause before now so_far → before < now → end_of so_far ran res ≡ Err end.Write
   write-due before now (Err d) ran res cause lt = refl
   write-due before now (Ok a) ran res cause lt = absurd (let same : now ≡ before = cause.passed in omega (arith, lt, same))
 
+  -- where its reader failed, or had too little memory, it ends by a fault or for want of memory
   pub fault-due : (so_far : Result A Failed) (ran : Result B E) (res : Result (Option FrameFault) NoFrame) → (res ≡ Err none.Failed) ⊎ (res ≡ Err none.Memory)
       → (end_of so_far ran res ≡ Err end.Read) ⊎ (end_of so_far ran res ≡ Err end.Write) ⊎ (end_of so_far ran res ≡ Err end.Memory)
   fault-due (Err d) ran res e = inr (inl refl)
@@ -566,24 +571,30 @@ module _ {A B E : Type 0} where
 
 -- The same of lists that are lent and given back.
 
+-- what may be closed may be under equal desks and callers
 pub close-moved : {P : Type 0} (boxes : List (Outlet (Option Ask))) (ds desks : List (Desk P)) (cs callers : List Caller) → ds ≡ desks → cs ≡ callers → MayCloseAll boxes desks callers → MayCloseAll boxes ds cs
 close-moved {P} boxes ds desks cs callers e f h = subst (λ (x : List (Desk P)). MayCloseAll boxes x cs) (sym e) (subst (λ (x : List Caller). MayCloseAll boxes desks x) (sym f) h)
 
+-- what can be gathered of desks can be of equal ones
 pub over-moved : {P : Type 0} (is_own : P → Type 0) (shape : Shape) (known : P → Known) (ds desks : List (Desk P)) (r : Result Unit AllocError) → ds ≡ desks → OnOk r (AreOver is_own shape known desks) → OnOk r (AreOver is_own shape known ds)
 over-moved {P} is_own shape known ds desks r e h = subst (λ (x : List (Desk P)). OnOk r (AreOver is_own shape known x)) (sym e) h
 
+-- what was taken at seats was at equal ones
 pub took-moved : {P : Type 0} (ds desks : List (Desk P)) (cs callers : List Caller) → ds ≡ desks → cs ≡ callers → HaveTakenFirst ds cs → HaveTakenFirst desks callers
 took-moved {P} ds desks cs callers e f h = subst (λ (x : List (Desk P)). HaveTakenFirst x callers) e (subst (λ (x : List Caller). HaveTakenFirst ds x) f h)
 
+-- what was gathered of desks was of equal ones
 pub gathered-moved : {P : Type 0} (known : P → Known) (ds desks : List (Desk P)) (r : Result Unit AllocError) → ds ≡ desks → OnOk r (HasGathered known ds) → OnOk r (HasGathered known desks)
 gathered-moved {P} known ds desks r e h = subst (λ (x : List (Desk P)). OnOk r (HasGathered known x)) e h
 
+-- what was told by inboxes and desks was by equal ones
 pub told-moved : {P K : Type 0} (is_own : P → Type 0) (shape : Shape) (known : P → Known) (bs boxes : List (Outlet (Option Ask))) (ds old desks : List (Desk P)) (held : K → Option (List ℕ)) (faults : K → ℕ) (sink sink_now : K)
     (told : Result Unit Failed × Result Unit AllocError) → bs ≡ boxes → ds ≡ old → HasToldBy is_own shape known bs ds desks held faults sink sink_now told → HasToldBy is_own shape known boxes old desks held faults sink sink_now told
 told-moved {P} is_own shape known bs boxes ds old desks held faults sink sink_now told e f h =
     subst (λ (x : List (Outlet (Option Ask))). HasToldBy is_own shape known x old desks held faults sink sink_now told) e
     (subst (λ (x : List (Desk P)). HasToldBy is_own shape known bs x desks held faults sink sink_now told) f h)
 
+-- what was read for inboxes and callers was for equal ones
 pub read-moved : {S : Type 0} (left : S → Option (List ℕ)) (faults : S → ℕ) (bs boxes : List (Outlet (Option Ask))) (cs old callers : List Caller) (source source_now : S) (res : Result (Option FrameFault) NoFrame) → bs ≡ boxes → cs ≡ old
     → HasReadBy left faults bs cs callers source source_now res → HasReadBy left faults boxes old callers source source_now res
 read-moved left faults bs boxes cs old callers source source_now res e f h =
@@ -600,6 +611,7 @@ module _ {P K : Type 0} (is_own : P → Type 0) (shape : Shape) (known : P → K
   count-now : length desks ≡ seats
   count-now = same-count old desks told.ran.clients ∙ desk-count is_own shape known seats boxes old old_callers opened
 
+  -- where all desks have served their passes can be gathered
   pub over-now : OnOk served (AreOver is_own shape known desks)
   over-now = at served told.ran.served
     where
@@ -607,6 +619,7 @@ module _ {P K : Type 0} (is_own : P → Type 0) (shape : Shape) (known : P → K
       at (Err x) h = tt
       at (Ok x) h = are-over is_own shape known boxes told.after seats desks count-now (seat-length is_own shape known seats boxes old old_callers opened) given-now h
 
+  -- and their inboxes can be closed, however the reader ended
   pub close-now : (left : Option (List ℕ)) (res : Result (Option FrameFault) NoFrame) → length callers ≡ length old_callers → HasRead (seat_notes seats) left boxes callers res → MayCloseAll boxes desks callers
   close-now left res count read =
       may-close seats (seat_notes seats) shape left boxes desks callers told.after res (box-count is_own shape known seats boxes old old_callers opened) count-now

@@ -23,18 +23,23 @@ module _ (left old new : Option (List ℕ)) (status : Status) (answers : IfSome 
   answered : (other : Status) → status ≡ other → IfSome left (λ bytes. AnswersWire bytes old new other)
   answered other e = subst (λ (s : Status). IfSome left (λ bytes. AnswersWire bytes old new s)) e answers
 
+  -- a client that is done was answered all that it asked
   pub done-wire : status ≡ Done → IfSome left (λ bytes. Converses bytes (Appends old new))
   done-wire e = answered Done e
 
+  -- one that sent something at fault was answered all before
   pub bad-wire : (fault : WireFault) → status ≡ BadWire fault → IfSome left (λ bytes. BreaksOff bytes fault (Appends old new))
   bad-wire fault e = answered (BadWire fault) e
 
+  -- after a read fault all that was read whole was answered
   pub read-wire : status ≡ ReadFault → IfSome left (λ bytes. StopsBetween bytes (Appends old new))
   read-wire e = answered ReadFault e
 
+  -- after a write fault a prefix of the answers stands written
   pub write-wire : status ≡ WriteFault → IfSome left (λ bytes. StopsAmong bytes (λ section items. AppendsPrefix old new (messages section items)))
   write-wire e = answered WriteFault e
 
+  -- where memory did not suffice whole answers were written
   pub memory-wire : status ≡ NoMemory → IfSome left (λ bytes. StopsAmong bytes (WroteWhole old new))
   memory-wire e = answered NoMemory e
 

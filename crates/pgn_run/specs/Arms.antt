@@ -30,16 +30,14 @@ use Rattle.pgn_run.specs.Service.{over_frame}
 abbrev pub with_over : Bool → List Frame → List ℕ
 with_over over outs = flat_map frame_bytes outs ++ cond over over_frame []
 
--- what one pass had not yet taken of what the other one has told was taken and given out, and where the service is over that it is
-pub record HasWrittenRest {S : Type 0} (held : S → Option (List ℕ)) (faults : S → ℕ) (tells takes : Hand Saying) (out : Out) (sink sink_now : S) (over : Bool) (so_far : Result Unit Failed) : Type 0 where
+-- what one pass had not yet taken of what the other one has told was taken and given out, and nothing is kept back
+pub record HasWrittenRest {S : Type 0} (held : S → Option (List ℕ)) (faults : S → ℕ) (tells takes : Hand Saying) (out : Out) (sink sink_now : S) (out_now : Out) : Type 0 where
   pub more : List (Came Saying)
   pub all : (seat : ℕ) → MayPush tells seat → what_of seat (takes.got ++ more) ≡ what_of seat tells.sent
   pub outs : List Frame
   pub carry : Carry outs more
-  pub out_now : Out
-  pub puts : Puts held faults sink out sink_now out_now (with_over over outs)
+  pub puts : Puts held faults sink out sink_now out_now (flat_map frame_bytes outs)
   pub sent : OnOk out_now.so_far (out_now.kept ≡ [])
-  pub is : so_far ≡ out_now.so_far
 
 -- frames tell, seat by seat, all that a pass has told, and nobody else anything
 pub record CarryAll (outs : List Frame) (tells : Hand Saying) : Type 0 where

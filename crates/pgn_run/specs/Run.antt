@@ -29,6 +29,7 @@ use Rattle.pgn_frames.specs.declared.frame_fault.FrameFault.{FrameFault}
 use Rattle.pgn_frames.specs.Frames.{Frame, FramesAre}
 use Rattle.pgn_run.specs.Service.{ServesAll, ServesFirst, ServesInPart, StopsServing}
 use Rattle.pgn_run.specs.Live.{EarlyOver, LiveOver, SoFarOver}
+use Rattle.pgn_run.specs.declared.means.RunSettings.{RunSettings}
 use Rattle.pgn_run.specs.declared.print.Shows.{Shows}
 use Rattle.pgn_run.specs.declared.print.Shows.TheVariants.{AtEnd, Live}
 use Rattle.pgn_run.specs.declared.print.Print.{Print}
@@ -50,11 +51,15 @@ code_of (BadWire fault) = 10
 code_of CheckTooLarge = 11
 code_of (BadFrame fault) = 12
 
--- the terms of a run with a limit of so many pages, where an await takes so many looks, with entries of this format
+-- the settings of a run with a limit of so many pages, where an await takes so many looks, with entries of this format
 abbrev pub settings_with : ℕ → ℕ → Format → Settings
 settings_with pages patience format = record { format = format; limit = pages; patience = patience }
 
--- the terms of a drill
+-- the same, as a run is given them
+abbrev pub settings_of : RunSettings → Settings
+settings_of given = settings_with given.pages given.patience given.format
+
+-- the settings of a drill
 abbrev pub drill_settings : Settings
 drill_settings = settings_with PAGES_MAX PATIENCE_MAX One
 

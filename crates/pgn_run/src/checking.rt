@@ -3,12 +3,12 @@ ghost use Rattle.std.specs.Io.KnownBytes.{Consumes};
 ghost use Rattle.pgn_base.specs.Outside.{HasCause, Rose, Writes};
 ghost use Rattle.pgn_language.specs.Inputs.{ReadsAsScenario};
 ghost use Rattle.pgn_run.specs.Checking.{AnswersCheck, HasTold, IsOfCheck, IsUntold, IsVerdictOn, status_of, verdict_text};
-ghost use Rattle.pgn_run.specs.Run.{HasRead, settings_with};
+ghost use Rattle.pgn_run.specs.Run.{HasRead, settings_of};
 
-use crate::Status;
 use crate::input::{Unread, read_input};
 use crate::parting::parts;
-use pgn_base::{Failed, Format, Seed, Sink, Source, write_all};
+use crate::{RunSettings, Status};
+use pgn_base::{Failed, Seed, Sink, Source, write_all};
 use pgn_check::{Verdict, check_output};
 use pgn_language::ScenarioFault;
 use pgn_scenario::read_scenario;
@@ -27,34 +27,29 @@ const CHECK_READ_LIMIT: usize = CHECK_BYTES_MAX + 1;
 pub(crate) fn check<S: Source, K: Sink>(
     alloc: Global,
     hashes: Seed,
-    pages: u32,
-    patience: u64,
-    format: Format,
+    settings: RunSettings,
     source: &mut S,
     sink: &mut K,
 ) -> Status
     ensures answers { IfSome (S.left source.old) (λ input.
-        AnswersCheck (settings_with pages patience format) input (K.held sink.old) (K.held sink.new) (K.faults sink.old) (K.faults sink.new) result) }
+        AnswersCheck (settings_of settings) input (K.held sink.old) (K.held sink.new)
+        (K.faults sink.old) (K.faults sink.new) result) }
     ensures own { IsOfCheck result }
     ensures what_was_read { HasRead result → IfSome (S.left source.old) (λ left.
         Consumes (S.left source.old) (S.left source.new) (take (CHECK_BYTES_MAX + 1) left)) }
     ensures nothing { IsUntold result → K.held sink.new ≡ K.held sink.old }
-    ensures read_fault { result ≡ Status.ReadFault → Rose (S.faults source.old) (S.faults source.new) }
-    ensures read_fault_where_due { S.faults source.old < S.faults source.new → result ≡ Status.ReadFault }
-    ensures write_fault { result ≡ Status.WriteFault → Rose (K.faults sink.old) (K.faults sink.new) }
-    ensures write_fault_where_due { K.faults sink.old < K.faults sink.new → result ≡ Status.WriteFault }
+    ensures read_fault { result ≡ Status.ReadFault
+        → Rose (S.faults source.old) (S.faults source.new) }
+    ensures read_fault_where_due { S.faults source.old < S.faults source.new
+        → result ≡ Status.ReadFault }
+    ensures write_fault { result ≡ Status.WriteFault
+        → Rose (K.faults sink.old) (K.faults sink.new) }
+    ensures write_fault_where_due { K.faults sink.old < K.faults sink.new
+        → result ≡ Status.WriteFault }
 {
     match read_input(alloc, source, CHECK_READ_LIMIT) {
         Ok(input) => {
-            let status = judge(
-                alloc,
-                hashes,
-                input.as_slice(),
-                pages,
-                patience,
-                format,
-                sink,
-            );
+            let status = judge(alloc, hashes, input.as_slice(), settings, sink);
             mem::forget(input);
             status
         }
@@ -68,12 +63,11 @@ fn judge<K: Sink>(
     alloc: Global,
     hashes: Seed,
     input: &[u8],
-    pages: u32,
-    patience: u64,
-    format: Format,
+    settings: RunSettings,
     sink: &mut K,
 ) -> Status
-    ensures answers { AnswersCheck (settings_with pages patience format) input.now (K.held sink.old) (K.held sink.new) (K.faults sink.old) (K.faults sink.new) result }
+    ensures answers { AnswersCheck (settings_of settings) input.now (K.held sink.old)
+        (K.held sink.new) (K.faults sink.old) (K.faults sink.new) result }
     ensures read { result ≢ Status.ReadFault }
     ensures later { K.faults sink.old ≤ K.faults sink.new }
     ensures rose { K.faults sink.old < K.faults sink.new → result ≡ Status.WriteFault }
@@ -84,7 +78,7 @@ fn judge<K: Sink>(
     let Some((scenario, output)) = parts(input) else {
         return Status::NoOutput;
     };
-    match verdict_on(alloc, hashes, scenario, output, pages, patience, format) {
+    match verdict_on(alloc, hashes, scenario, output, settings) {
         Ok(Ok(verdict)) => tell(verdict, sink),
         Ok(Err(fault)) => Status::BadScenario(fault),
         Err(AllocError) => Status::NoMemory,
@@ -98,17 +92,25 @@ fn verdict_on(
     hashes: Seed,
     scenario: &[u8],
     output: &[u8],
-    pages: u32,
-    patience: u64,
-    format: Format,
+    settings: RunSettings,
 ) -> Result<Result<Verdict, ScenarioFault>, AllocError>
     requires few { length output.now ≤ CHECK_BYTES_MAX }
-    ensures given { IfOk result (λ given. IfOk given (IsVerdictOn (settings_with pages patience format) scenario.now output.now)) }
-    ensures fault { IfOk result (λ given. IfErr given (λ fault. ReadsAsScenario scenario.now (Err fault))) }
+    ensures given { IfOk result (λ given.
+        IfOk given (IsVerdictOn (settings_of settings) scenario.now output.now)) }
+    ensures fault { IfOk result (λ given.
+        IfErr given (λ fault. ReadsAsScenario scenario.now (Err fault))) }
 {
     match read_scenario(alloc, hashes, scenario)? {
         Ok(scenario) => {
-            let given = check_output(alloc, hashes, &scenario, pages, patience, format, output)?;
+            let given = check_output(
+                alloc,
+                hashes,
+                &scenario,
+                settings.pages,
+                settings.patience,
+                settings.format,
+                output,
+            )?;
             mem::forget(scenario);
             Ok(Ok(given))
         }
@@ -118,7 +120,8 @@ fn verdict_on(
 
 // Writes a verdict.
 fn tell<K: Sink>(verdict: Verdict, sink: &mut K) -> Status
-    ensures told { HasTold verdict (K.held sink.old) (K.held sink.new) (K.faults sink.old) (K.faults sink.new) result }
+    ensures told { HasTold verdict (K.held sink.old) (K.held sink.new) (K.faults sink.old)
+        (K.faults sink.new) result }
     ensures later { K.faults sink.old ≤ K.faults sink.new }
     ensures rose { K.faults sink.old < K.faults sink.new → result ≡ Status.WriteFault }
 {
@@ -139,7 +142,8 @@ fn verdict_line<K: Sink>(verdict: Verdict, sink: &mut K) -> Result<(), Failed>
 }
 
 fn illegal_line<K: Sink>(line: usize, sink: &mut K) -> Result<(), Failed>
-    ensures bytes { Writes (K.held sink.old) (K.held sink.new) result (verdict_text (Verdict.Illegal line)) }
+    ensures bytes { Writes (K.held sink.old) (K.held sink.new) result
+        (verdict_text (Verdict.Illegal line)) }
     ensures cause { HasCause (K.faults sink.old) (K.faults sink.new) result }
 {
     let mut out = Out::new();

@@ -21,7 +21,8 @@ pub(crate) fn open<P: PassView + Send + Drop, H: Hub<Pass = P> + Drop>(
 ) -> Result<(H, Session<P>), AllocError>
     ensures shape { IfOk result (λ opened. H.shape opened.0 ≡ wire_shape) }
     ensures own { IfOk result (λ opened. H.is_pass opened.0 opened.1.pass) }
-    ensures served { IfOk result (λ opened. IsServedBy (H.shape opened.0) opened.1.section opened.1.plan) }
+    ensures served { IfOk result (λ opened.
+        IsServedBy (H.shape opened.0) opened.1.section opened.1.plan) }
     ensures rested { IfOk result (λ opened. HasRest (H.shape opened.0) P.known opened.1) }
     ensures begins { IfOk result (λ opened. BeginsEmpty opened.1) }
     ensures section { IfOk result (λ opened. opened.1.section ≡ session_section []) }
@@ -162,7 +163,8 @@ pub(crate) fn finish<P: PassView + Send + Drop, H: Hub<Pass = P> + Drop>(
     requires number { session.section.no ≡ 1 }
     requires plan { session.plan ≡ wire_plan }
     requires patience { session.patience ≡ 1 }
-    ensures { OnOk result (NamesNoFlags session.section → RunsLegally session.section session.items.items) }
+    ensures { OnOk result
+        (NamesNoFlags session.section → RunsLegally session.section session.items.items) }
 {
     let (pass, trace) = session.into_log();
     drop(trace);

@@ -13,6 +13,7 @@ use pgn_seats::{Desk, Inbox};
 use pgn_turns::Ask;
 use std::alloc::{AllocError, Global};
 use std::sync::Wait;
+use std::vec::IntoIter;
 
 // Closes what the seats of a service have, once its arms are done, and gathers the passes of its desks, where all have served: what they
 // did is then a legal run. The error is that memory did not suffice, for the desks or here.
@@ -24,7 +25,8 @@ pub(crate) fn close<P: PassView + Send + Drop, H: Hub<Pass = P> + Drop, R: Wait>
     served: Result<(), AllocError>,
 ) -> Result<(), AllocError>
     requires close { MayCloseAll seating.inboxes.items seating.desks.items seating.callers.items }
-    requires over { OnOk served (AreOver (H.is_pass hub) (H.shape hub) P.known seating.desks.items) }
+    requires over { OnOk served
+        (AreOver (H.is_pass hub) (H.shape hub) P.known seating.desks.items) }
     ensures took { HaveTakenFirst seating.desks.items seating.callers.items }
     ensures ran { OnOk result (served ≡ Ok tt) }
     ensures gathered { OnOk result (HasGathered P.known seating.desks.items) }
@@ -52,7 +54,9 @@ fn gather_where_served<P: PassView + Send + Drop, H: Hub<Pass = P> + Drop>(
     served: Result<(), AllocError>,
 ) -> Result<(), AllocError>
     requires own { OnOk served (All (H.is_pass hub) passes.items) }
-    requires all { OnOk served (map (λ pass. (P.known pass).session) passes.items ≡ range_with_len 1 (length (H.shape hub).seats)) }
+    requires all { OnOk served
+        (map (λ pass. (P.known pass).session) passes.items ≡ range_with_len 1
+        (length (H.shape hub).seats)) }
     ensures ran { OnOk result (served ≡ Ok tt) }
     ensures gathered { OnOk result ((count : _) × Gathered (map P.known passes.items) count) }
     ensures within { OnOk result (All (λ pass. IsWithin (P.known pass)) passes.items) }
@@ -73,7 +77,8 @@ fn gather_where_served<P: PassView + Send + Drop, H: Hub<Pass = P> + Drop>(
 // Gathers the passes of a hub.
 fn gather_all<P: PassView + Send + Drop, H: Hub<Pass = P> + Drop>(hub: H, passes: Vec<P>)
     requires own { All (H.is_pass hub) passes.items }
-    requires all { map (λ pass. (P.known pass).session) passes.items ≡ range_with_len 1 (length (H.shape hub).seats) }
+    requires all { map (λ pass. (P.known pass).session) passes.items ≡ range_with_len 1
+        (length (H.shape hub).seats) }
     ensures gathered { (count : _) × Gathered (map P.known passes.items) count }
     ensures within { All (λ pass. IsWithin (P.known pass)) passes.items }
 {
@@ -98,10 +103,16 @@ fn leave_all<P: PassView + Send + Drop, R: Wait>(
 ) -> Result<Vec<P>, AllocError>
     requires close { MayCloseAll inboxes.now desks.items callers.items }
     ensures took { HaveTakenFirst desks.items callers.items }
-    ensures passes { IfOk result (λ passes. passes.items ≡ map (λ desk. desk.session.pass) desks.items) }
+    ensures passes { IfOk result (λ passes.
+        passes.items ≡ map (λ desk. desk.session.pass) desks.items) }
 {
     let mut passes = Vec::new(alloc);
-    match leave_each(rt, inboxes, desks, callers, &mut passes) {
+    let mut desks = desks.into_iter();
+    let mut callers = callers.into_iter();
+    let left = leave_each(rt, inboxes, &mut desks, &mut callers, &mut passes);
+    drop(desks);
+    drop(callers);
+    match left {
         Ok(()) => Ok(passes),
         Err(error) => {
             drop(passes);
@@ -110,21 +121,21 @@ fn leave_all<P: PassView + Send + Drop, R: Wait>(
     }
 }
 
+// Closes each inbox with the next desk and the next caller, which are lent, so that nothing with parts is dropped on the way.
 fn leave_each<P: PassView + Send + Drop, R: Wait>(
     rt: &R,
     inboxes: &[Inbox],
-    desks: Vec<Desk<P>>,
-    callers: Vec<Caller>,
+    desks: &mut IntoIter<Desk<P>, Global>,
+    callers: &mut IntoIter<Caller, Global>,
     passes: &mut Vec<P>,
 ) -> Result<(), AllocError>
-    requires close { MayCloseAll inboxes.now desks.items callers.items }
+    requires close { MayCloseAll inboxes.now desks.old.rest.items callers.old.rest.items }
     requires none { passes.old.items ≡ [] }
-    ensures took { HaveTakenFirst desks.items callers.items }
-    ensures passes { OnOk result (passes.new.items ≡ map (λ desk. desk.session.pass) desks.items) }
+    ensures took { HaveTakenFirst desks.old.rest.items callers.old.rest.items }
+    ensures passes { OnOk result
+        (passes.new.items ≡ map (λ desk. desk.session.pass) desks.old.rest.items) }
 {
     let mut so_far = Ok(());
-    let mut desks = desks.into_iter();
-    let mut callers = callers.into_iter();
     for place in 0..inboxes.len() {
         let Some(desk) = desks.next() else {
             unreachable!();

@@ -1,10 +1,6 @@
-ghost use Rattle.std.specs.Prelude.{◌≡◌, ◌<◌, ◌≤◌, [], Err, IfSome, OnOk};
-ghost use Rattle.std.specs.Io.KnownBytes.{Appends};
-ghost use Rattle.pgn_base.specs.Outside.{AppendsPrefix, Rose};
-ghost use Rattle.pgn_messages.specs.Messages.{messages};
-ghost use Rattle.pgn_queries.specs.declared.wire_fault.WireFault.{WireFault};
-ghost use Rattle.pgn_run.specs.Conversation.{BreaksOff, Converses, EndsBy, StopsAmong};
-ghost use Rattle.pgn_wire.specs.Serving.{WroteWhole};
+ghost use Rattle.std.specs.Prelude.{◌≡◌, ◌<◌, ◌≤◌, Err, IfSome};
+ghost use Rattle.pgn_base.specs.Outside.{Rose};
+ghost use Rattle.pgn_run.specs.Conversation.{EndsBy};
 
 use crate::client::{finish, open};
 use pgn_base::{Seed, Sink, Source};
@@ -23,7 +19,8 @@ pub fn converse<P: PassView + Send + Drop, H: Hub<Pass = P> + Drop, R: Wait, S: 
     sink: &mut K,
 ) -> Result<(), WireEnd>
     // What the client asked, and what stands written, by how it ended.
-    ensures ends { IfSome (S.left source.old) (λ bytes. EndsBy result bytes (K.held sink.old) (K.held sink.new)) }
+    ensures ends { IfSome (S.left source.old) (λ bytes.
+        EndsBy result bytes (K.held sink.old) (K.held sink.new)) }
     ensures read { result ≡ Err WireEnd.Read → Rose (S.faults source.old) (S.faults source.new) }
     ensures write { result ≡ Err WireEnd.Write → Rose (K.faults sink.old) (K.faults sink.new) }
     ensures source_later { S.faults source.old ≤ S.faults source.new }

@@ -39,7 +39,8 @@ pub fn so_far()
     ensures answered { IsSoFar (listen_line ∷ []) (λ items. items ≡ listens) }
     ensures nothing { IsSoFar (listen_line ∷ []) (λ items. items ≡ []) }
     // No answer comes before its query, nor one to a query that was not asked.
-    ensures answer_first { IsSoFar (listen_line ∷ []) (λ items. items ≡ Reply tag.Listen None ∷ []) → ⊥ }
+    ensures answer_first { IsSoFar (listen_line ∷ []) (λ items. items ≡ Reply tag.Listen None ∷ [])
+        → ⊥ }
     ensures not_asked { IsSoFar [] (λ items. items ≡ listens) → ⊥ }
     // Before a fault of its bytes it has the whole answer.
     ensures all_answered { IsAnsweredSoFar (listen_line ∷ []) (λ items. items ≡ listens) }
@@ -50,10 +51,12 @@ pub fn so_far()
 /// What the clients of seats are told, and what may stand written.
 pub fn seats()
     // A client that listened heard a notification, and then nobody asked more.
-    ensures told { IsToldOf 1 (Query listen ∷ []) (idle_items ++ Line seat_quit.line ∷ []) (map Some (listen_bytes ++ other_bytes)) }
+    ensures told { IsToldOf 1 (Query listen ∷ []) (idle_items ++ Line seat_quit.line ∷ [])
+        (map Some (listen_bytes ++ other_bytes)) }
     // The notification left out; a notification that comes behind the `\quit`.
     ensures read_left_out { IsToldOf 1 (Query listen ∷ []) (idle_items ++ Line seat_quit.line ∷ []) (map Some listen_bytes) → ⊥ }
-    ensures read_behind { IsToldOf 1 [] (Line seat_quit.line ∷ Read 3 4 (sent_by 1002 ∷ []) ∷ []) [] → ⊥ }
+    ensures read_behind { IsToldOf 1 [] (Line seat_quit.line ∷ Read 3 4 (sent_by 1002 ∷ []) ∷ []) []
+        → ⊥ }
     // Nobody asked anything: nothing is written, and no part of a frame.
     ensures nothing { RunsSeats 1 [] (λ text. text ≡ []) }
     ensures half_a_frame { RunsSeats 1 [] (λ text. text ≡ 0 ∷ 1 ∷ 0 ∷ []) → ⊥ }

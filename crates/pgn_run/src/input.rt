@@ -1,4 +1,4 @@
-ghost use Rattle.std.specs.Prelude.{◌≡◌, ◌<◌, ◌≤◌, ℕ, take, IfOk, IfSome, OnErr};
+ghost use Rattle.std.specs.Prelude.{◌≡◌, ◌<◌, ◌≤◌, take, IfOk, IfSome};
 ghost use Rattle.std.specs.Io.KnownBytes.{Consumes};
 ghost use Rattle.pgn_base.specs.Outside.{Rose};
 
@@ -16,8 +16,10 @@ const CHUNK: usize = 8192;
 
 /// Reads to the source's end, or to this many bytes.
 pub fn read_input<S: Source>(alloc: Global, source: &mut S, limit: usize) -> Result<Vec<u8>, Unread>
-    ensures bytes { IfOk result (λ input. IfSome (S.left source.old) (λ left. input.items ≡ take limit left)) }
-    ensures consumed { IfOk result (λ input. Consumes (S.left source.old) (S.left source.new) input.items) }
+    ensures bytes { IfOk result (λ input.
+        IfSome (S.left source.old) (λ left. input.items ≡ take limit left)) }
+    ensures consumed { IfOk result (λ input.
+        Consumes (S.left source.old) (S.left source.new) input.items) }
     ensures later { S.faults source.old ≤ S.faults source.new }
     ensures failed { result ≡ Err Unread.Failed → Rose (S.faults source.old) (S.faults source.new) }
     ensures rose { S.faults source.old < S.faults source.new → result ≡ Err Unread.Failed }

@@ -30,6 +30,7 @@ mod conversing;
 pub mod examples;
 mod input;
 mod live_run;
+mod means;
 mod parting;
 mod print;
 mod run;
@@ -43,6 +44,7 @@ mod wire;
 
 pub use conversing::converse;
 pub use live_run::run_scenario_live;
+pub use means::{Means, RunSettings};
 pub use print::Print;
 pub use run::run_notify;
 pub use scenario_run::run_scenario;

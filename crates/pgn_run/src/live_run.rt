@@ -9,10 +9,10 @@ ghost use Rattle.pgn_live.specs.Lives.{tagged};
 ghost use Rattle.pgn_text.specs.Rendering.{Puts, ends_lines};
 ghost use Rattle.pgn_session.specs.Runs.{IsOver};
 ghost use Rattle.pgn_run.specs.Live.{EarlyOver, EndsOver, LiveOver, SoFarOver, counts_of, end_text, lasts};
-ghost use Rattle.pgn_run.specs.Run.{HasWritten, settings_with};
+ghost use Rattle.pgn_run.specs.Run.{HasWritten, settings_of};
 
-use crate::Status;
-use pgn_base::{Failed, Format, Seed, Sink};
+use crate::{Means, RunSettings, Status};
+use pgn_base::{Failed, Sink};
 use pgn_hub::{Hub, PassView};
 use pgn_journal::Tx;
 use pgn_language::{Scenario, Section};
@@ -29,37 +29,55 @@ use std::time::Clock;
 /// Runs a scenario as `run_scenario` does, and writes each line of each session as it comes, behind the session's number; then the
 /// journal, and where each session ended.
 pub fn run_scenario_live<H: Hub + Sync + Drop, K: Sink + Send, R: Threads + Wait + Clock + Sync>(
-    rt: &R,
-    alloc: Global,
-    hashes: Seed,
+    means: &Means<'_, R>,
     scenario: &Scenario,
-    pages: u32,
-    patience: u64,
-    format: Format,
+    settings: RunSettings,
     sink: &mut K,
 ) -> Status
     requires sound { IsSound scenario.now }
-    requires some_pages { PAGES_MIN ≤ pages }
-    requires few_pages { pages ≤ PAGES_MAX }
-    requires patient { 1 ≤ patience }
-    ensures done { result ≡ Status.Done → LiveOver scenario.now (settings_with pages patience format) (Appends (K.held sink.old) (K.held sink.new)) }
-    ensures write_fault { result ≡ Status.WriteFault → Rose (K.faults sink.old) (K.faults sink.new) }
-    ensures write_fault_where_due { K.faults sink.old < K.faults sink.new → result ≡ Status.WriteFault }
+    requires some_pages { PAGES_MIN ≤ settings.pages }
+    requires few_pages { settings.pages ≤ PAGES_MAX }
+    requires patient { 1 ≤ settings.patience }
+    ensures done { result ≡ Status.Done
+        → LiveOver scenario.now (settings_of settings)
+        (Appends (K.held sink.old) (K.held sink.new)) }
+    ensures write_fault { result ≡ Status.WriteFault
+        → Rose (K.faults sink.old) (K.faults sink.new) }
+    ensures write_fault_where_due { K.faults sink.old < K.faults sink.new
+        → result ≡ Status.WriteFault }
     ensures write_fault_writes_a_prefix { result ≡ Status.WriteFault
-        → LiveOver scenario.now (settings_with pages patience format) (AppendsPrefix (K.held sink.old) (K.held sink.new))
-        ⊎ EarlyOver scenario.now (settings_with pages patience format) (AppendsPrefix (K.held sink.old) (K.held sink.new)) }
+        → LiveOver scenario.now (settings_of settings)
+        (AppendsPrefix (K.held sink.old) (K.held sink.new))
+        ⊎ EarlyOver scenario.now (settings_of settings)
+        (AppendsPrefix (K.held sink.old) (K.held sink.new)) }
     ensures no_memory_writes_first_lines { result ≡ Status.NoMemory
-        → (K.held sink.new ≡ K.held sink.old) ⊎ SoFarOver scenario.now (settings_with pages patience format) (Appends (K.held sink.old) (K.held sink.new)) }
-    ensures only { (result ≡ Status.Done) ⊎ (result ≡ Status.WriteFault) ⊎ (result ≡ Status.NoMemory) }
+        → (K.held sink.new ≡ K.held sink.old)
+        ⊎ SoFarOver scenario.now (settings_of settings)
+        (Appends (K.held sink.old) (K.held sink.new)) }
+    ensures only { (result ≡ Status.Done) ⊎ (result ≡ Status.WriteFault)
+        ⊎ (result ≡ Status.NoMemory) }
     ensures later { K.faults sink.old ≤ K.faults sink.new }
 {
-    let Ok((hub, mut sessions)) = open_on_hub::<H>(alloc, hashes, scenario, pages, patience, format)
-    else {
+    let Ok((hub, mut sessions)) = open_on_hub::<H>(
+        means.alloc,
+        means.hashes,
+        scenario,
+        settings.pages,
+        settings.patience,
+        settings.format,
+    ) else {
         return Status::NoMemory;
     };
     let sections = scenario.sections.as_slice();
-    match run_live(rt, alloc, &hub, sections, sessions.as_mut_slice(), sink) {
-        Ok(()) => finish_live(alloc, scenario, hub, sessions, sink),
+    match run_live(
+        means.rt,
+        means.alloc,
+        &hub,
+        sections,
+        sessions.as_mut_slice(),
+        sink,
+    ) {
+        Ok(()) => finish_live(means.alloc, scenario, hub, sessions, sink),
         // Dropped here, by calls: `finish_live` takes them on the other way.
         Err(LiveFault::Write) => {
             drop(sessions);
@@ -83,13 +101,22 @@ fn finish_live<H: Hub + Drop, K: Sink>(
     sink: &mut K,
 ) -> Status
     requires over { All (IsOver (H.is_pass hub) (H.shape hub) H.Pass.known) sessions.items }
-    requires all { map (λ s. s.section.no) sessions.items ≡ range_with_len 1 (length (H.shape hub).seats) }
-    ensures done { result ≡ Status.Done → EndsOver scenario.now (H.shape hub) sessions.items (Appends (K.held sink.old) (K.held sink.new)) }
-    ensures write_fault { result ≡ Status.WriteFault → Rose (K.faults sink.old) (K.faults sink.new) }
-    ensures write_fault_where_due { K.faults sink.old < K.faults sink.new → result ≡ Status.WriteFault }
-    ensures write_fault_writes_a_prefix { result ≡ Status.WriteFault → EndsOver scenario.now (H.shape hub) sessions.items (AppendsPrefix (K.held sink.old) (K.held sink.new)) }
-    ensures no_memory_writes_nothing { result ≡ Status.NoMemory → K.held sink.new ≡ K.held sink.old }
-    ensures only { (result ≡ Status.Done) ⊎ (result ≡ Status.WriteFault) ⊎ (result ≡ Status.NoMemory) }
+    requires all { map (λ s. s.section.no) sessions.items ≡ range_with_len 1
+        (length (H.shape hub).seats) }
+    ensures done { result ≡ Status.Done
+        → EndsOver scenario.now (H.shape hub) sessions.items
+        (Appends (K.held sink.old) (K.held sink.new)) }
+    ensures write_fault { result ≡ Status.WriteFault
+        → Rose (K.faults sink.old) (K.faults sink.new) }
+    ensures write_fault_where_due { K.faults sink.old < K.faults sink.new
+        → result ≡ Status.WriteFault }
+    ensures write_fault_writes_a_prefix { result ≡ Status.WriteFault
+        → EndsOver scenario.now (H.shape hub) sessions.items
+        (AppendsPrefix (K.held sink.old) (K.held sink.new)) }
+    ensures no_memory_writes_nothing { result ≡ Status.NoMemory
+        → K.held sink.new ≡ K.held sink.old }
+    ensures only { (result ≡ Status.Done) ⊎ (result ≡ Status.WriteFault)
+        ⊎ (result ≡ Status.NoMemory) }
     ensures later { K.faults sink.old ≤ K.faults sink.new }
 {
     let Ok(told) = counts(alloc, sessions.as_slice()) else {
@@ -144,7 +171,10 @@ fn count_each<P: PassView + Send + Drop>(
 
 // Writes what comes last of each session, behind the items that were told of it, the journal, and where each session ended.
 fn write_end<K: Sink>(scenario: &Scenario, told: &[usize], run: &Run, sink: &mut K) -> Status
-    ensures written { HasWritten (tagged scenario.now.sections (lasts told.now run.now.traces.items) ++ end_text scenario.now run.now.journal.items run.now.traces.items) (K.held sink.old) (K.held sink.new) (K.faults sink.old) (K.faults sink.new) result }
+    ensures written { HasWritten
+        (tagged scenario.now.sections (lasts told.now run.now.traces.items) ++ end_text scenario.now
+        run.now.journal.items run.now.traces.items) (K.held sink.old) (K.held sink.new)
+        (K.faults sink.old) (K.faults sink.new) result }
     ensures later { K.faults sink.old ≤ K.faults sink.new }
     ensures rose { K.faults sink.old < K.faults sink.new → result ≡ Status.WriteFault }
 {
@@ -169,7 +199,9 @@ fn put_end<K: Sink>(
     journal: &[Tx],
     traces: &[Trace],
 ) -> Result<(), Failed>
-    ensures bytes { Writes (K.held sink.old) (K.held sink.new) result (tagged sections.now (lasts told.now traces.now) ++ joined (journal_lines journal.now ++ ends_lines sections.now traces.now)) }
+    ensures bytes { Writes (K.held sink.old) (K.held sink.new) result
+        (tagged sections.now (lasts told.now traces.now) ++ joined
+        (journal_lines journal.now ++ ends_lines sections.now traces.now)) }
     ensures cause { HasCause (K.faults sink.old) (K.faults sink.new) result }
 {
     let mut out = Out::new();
@@ -188,7 +220,8 @@ fn put_lasts<K: Sink>(
     told: &[usize],
     traces: &[Trace],
 )
-    ensures { Puts K.held K.faults sink.old out.old sink.new out.new (tagged sections.now (lasts told.now traces.now)) }
+    ensures { Puts K.held K.faults sink.old out.old sink.new out.new
+        (tagged sections.now (lasts told.now traces.now)) }
 {
     let count = told.len().min(traces.len());
     for i in 0..count {

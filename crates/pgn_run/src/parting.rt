@@ -10,7 +10,8 @@ const OUTPUT_LINE: &[u8] = b"\\output";
 /// The scenario and the output text of an input of `check`: what stands before the first line that is `\output`, and what stands
 /// behind it, where there is such a line.
 pub(crate) fn parts(input: &[u8]) -> Option<(&[u8], &[u8])>
-    ensures parts { MatchOption result (parts_of input.now ≡ None) (λ parts. parts_of input.now ≡ Some (record { scenario = parts.0.now; output = parts.1.now })) }
+    ensures parts { MatchOption result (parts_of input.now ≡ None) (λ parts.
+        parts_of input.now ≡ Some (record { scenario = parts.0.now; output = parts.1.now })) }
     ensures shorter { IfSome result (λ parts. length parts.1.now ≤ length input.now) }
 {
     let at = output_line(input)?;
@@ -19,7 +20,11 @@ pub(crate) fn parts(input: &[u8]) -> Option<(&[u8], &[u8])>
 
 // Where the first line that is `\output` begins.
 fn output_line(input: &[u8]) -> Option<usize>
-    ensures line { MatchOption result (parts_of input.now ≡ None) (λ at. parts_of input.now ≡ Some (record { scenario = take at input.now; output = after_first ends_line (drop at input.now) })) }
+    ensures line { MatchOption result (parts_of input.now ≡ None) (λ at.
+        parts_of input.now ≡ Some (record {
+          scenario = take at input.now;
+          output = after_first ends_line (drop at input.now);
+        })) }
     ensures within { IfSome result (λ at. at ≤ length input.now) }
 {
     let mut at = 0;

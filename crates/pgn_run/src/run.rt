@@ -1,4 +1,4 @@
-ghost use Rattle.std.specs.Prelude.{◌≡◌, ◌≢◌, ◌⊎◌, ℕ, ◌<◌, ◌≤◌, ◌+◌, List, map, take, Ok, Err, None, Some, IfOk, IfSome, OnSome, IsSomeAnd};
+ghost use Rattle.std.specs.Prelude.{◌≡◌, ◌⊎◌, ℕ, ◌<◌, ◌≤◌, ◌+◌, List, map, take, Ok, Err, None, Some, IfOk, IfSome, OnSome, IsSomeAnd};
 ghost use Rattle.std.specs.Io.KnownBytes.{Appends, Consumes, IsAtEnd};
 ghost use Rattle.pgn_base.specs.Outside.{AppendsPrefix, Rose};
 ghost use Rattle.pgn_base.specs.declared.limits.TheConstants.{PAGES_MAX, PAGES_MIN};
@@ -8,25 +8,23 @@ ghost use Rattle.pgn_language.specs.Inputs.{IsSound, ReadsAsScenario};
 ghost use Rattle.pgn_options.specs.declared.limits.TheConstants.{DRILL_NOTES_MAX, DRILL_SESSIONS_MAX};
 ghost use Rattle.pgn_options.specs.Words.{AreNoCommand, IsWithin};
 ghost use Rattle.pgn_drill.specs.Drill.{drill};
-ghost use Rattle.pgn_messages.specs.Messages.{messages};
 ghost use Rattle.pgn_check.specs.declared.check.Verdict.TheVariants as verdict;
 ghost use Rattle.pgn_queries.specs.declared.wire_fault.WireFault.{WireFault};
 ghost use Rattle.pgn_wire.specs.Serving.{WroteWhole};
 ghost use Rattle.pgn_frames.specs.declared.frame_fault.FrameFault.{FrameFault};
-ghost use Rattle.pgn_run.specs.Calls.{Performed};
+ghost use Rattle.pgn_run.specs.Calls.{Performed, RunEnds};
 ghost use Rattle.pgn_run.specs.Service.{ServesAll, ServesFirst, StopsServing};
 ghost use Rattle.pgn_run.specs.Checking.{HasFault, HasNoOutput, IsJudged, IsTooLarge, verdict_text};
 ghost use Rattle.pgn_run.specs.Conversation.{BreaksOff, StopsAmong, StopsBetween};
-ghost use Rattle.pgn_run.specs.declared.print.Print.{Print};
 ghost use Rattle.pgn_run.specs.declared.print.Print.TheVariants.{Summary};
-ghost use Rattle.pgn_run.specs.Run.{Answers, AskToCheck, AskToDrill, AskToRun, AskToRunLive, AskToServe, AskToWire, EndsIn, HasFrames, HasRead, IsOfRun, IsShownSoFar, Performs, PerformsInPart, Runs, Shown, ShownInPart, SoFarRuns, asked_settings, drill_settings, settings_with, shows_if};
+ghost use Rattle.pgn_run.specs.Run.{Answers, AskToCheck, AskToDrill, AskToRun, AskToRunLive, AskToServe, AskToWire, EndsIn, HasFrames, HasRead, Performs, PerformsInPart, Runs, SoFarRuns, asked_settings, drill_settings, settings_of, settings_with, shows_if};
 
 use crate::checking::{CHECK_BYTES_MAX, check};
 use crate::input::{Unread, read_input};
 use crate::print::Shows;
 use crate::serve::serve;
 use crate::wire::wire;
-use crate::{Print, Status, run_scenario, run_scenario_live};
+use crate::{Means, Print, RunSettings, Status, run_scenario, run_scenario_live};
 use pgn_base::{Format, INPUT_BYTES_MAX, PAGES_MAX, Seed, Sink, Source};
 use pgn_drill::drill_text;
 use pgn_hub::Hub;
@@ -63,76 +61,127 @@ pub fn run_notify<'a, S: Source, K: Sink + Send, R: Threads + Wait + Clock + Syn
     // was left are the queries of a client, and the messages of a legal run of them were written; or frames of the clients of seats, there
     // is a legal run of what they asked, and each was told what its seat's trace says, whole and in order; or it is a scenario with the
     // output of a legal run of it, and that was said.
-    ensures done { result ≡ Status.Done → Performs (map (λ word. word.now) words.now) (S.left source.old) (Appends (K.held sink.old) (K.held sink.new)) }
-    ensures done_reads_all { AskToRun (map (λ word. word.now) words.now) → result ≡ Status.Done → OnSome (S.left source.old) (IsAtEnd (S.left source.new)) }
+    ensures done { result ≡ Status.Done
+        → Performs (map (λ word. word.now) words.now) (S.left source.old)
+        (Appends (K.held sink.old) (K.held sink.new)) }
+    ensures done_reads_all { AskToRun (map (λ word. word.now) words.now) → result ≡ Status.Done
+        → OnSome (S.left source.old) (IsAtEnd (S.left source.new)) }
 
     ensures bad_words { result ≡ Status.BadWords → AreNoCommand (map (λ word. word.now) words.now) }
-    ensures bad_words_where_due { AreNoCommand (map (λ word. word.now) words.now) → (result ≡ Status.BadWords) ⊎ (result ≡ Status.NoMemory) }
-    ensures bad_words_read_nothing { AreNoCommand (map (λ word. word.now) words.now) → source.new ≡ source.old }
-    ensures bad_words_write_nothing { AreNoCommand (map (λ word. word.now) words.now) → sink.new ≡ sink.old }
+    ensures bad_words_where_due { AreNoCommand (map (λ word. word.now) words.now)
+        → (result ≡ Status.BadWords) ⊎ (result ≡ Status.NoMemory) }
+    ensures bad_words_read_nothing { AreNoCommand (map (λ word. word.now) words.now)
+        → source.new ≡ source.old }
+    ensures bad_words_write_nothing { AreNoCommand (map (λ word. word.now) words.now)
+        → sink.new ≡ sink.old }
 
     ensures bad_scenario { (fault : ScenarioFault) → result ≡ Status.BadScenario fault
-        → (AskToRun (map (λ word. word.now) words.now) × IfSome (S.left source.old) (λ input. ReadsAsScenario input (Err fault)))
-        ⊎ (AskToCheck (map (λ word. word.now) words.now) × IfSome (S.left source.old) (λ input. HasFault input fault)) }
-    ensures bad_scenario_where_due { (fault : ScenarioFault) → AskToRun (map (λ word. word.now) words.now)
+        → (AskToRun (map (λ word. word.now) words.now)
+        × IfSome (S.left source.old) (λ input. ReadsAsScenario input (Err fault)))
+        ⊎ (AskToCheck (map (λ word. word.now) words.now)
+        × IfSome (S.left source.old) (λ input. HasFault input fault)) }
+    ensures bad_scenario_where_due { (fault : ScenarioFault)
+        → AskToRun (map (λ word. word.now) words.now)
         → IsSomeAnd (S.left source.old) (λ input. ReadsAsScenario input (Err fault))
         → ¬ Rose (S.faults source.old) (S.faults source.new)
         → (result ≡ Status.BadScenario fault) ⊎ (result ≡ Status.NoMemory) }
-    ensures bad_scenario_where_checked { (fault : ScenarioFault) → AskToCheck (map (λ word. word.now) words.now)
+    ensures bad_scenario_where_checked { (fault : ScenarioFault)
+        → AskToCheck (map (λ word. word.now) words.now)
         → IsSomeAnd (S.left source.old) (λ input. HasFault input fault)
         → ¬ Rose (S.faults source.old) (S.faults source.new)
         → (result ≡ Status.BadScenario fault) ⊎ (result ≡ Status.NoMemory) }
-    ensures bad_scenario_writes_nothing { (fault : ScenarioFault) → result ≡ Status.BadScenario fault
-        → K.held sink.new ≡ K.held sink.old }
+    ensures bad_scenario_writes_nothing { (fault : ScenarioFault)
+        → result ≡ Status.BadScenario fault → K.held sink.new ≡ K.held sink.old }
 
     // The output text is none of a legal run, this line is the first to blame, and that was written.
     ensures illegal { (line : ℕ) → result ≡ Status.Illegal line
-        → (ask : AskToCheck (map (λ word. word.now) words.now)) × IfSome (S.left source.old) (λ input.
-        IsJudged (asked_settings ask) input (verdict.Illegal line) × Appends (K.held sink.old) (K.held sink.new) (verdict_text (verdict.Illegal line))) }
+        → (ask : AskToCheck (map (λ word. word.now) words.now))
+        × IfSome (S.left source.old) (λ input.
+        IsJudged (asked_settings ask) input (verdict.Illegal line)
+        × Appends (K.held sink.old) (K.held sink.new)
+        (verdict_text (verdict.Illegal line))) }
     ensures illegal_where_due { (line : ℕ) (ask : AskToCheck (map (λ word. word.now) words.now))
-        → IsSomeAnd (S.left source.old) (λ input. IsJudged (asked_settings ask) input (verdict.Illegal line))
+        → IsSomeAnd (S.left source.old) (λ input.
+        IsJudged (asked_settings ask) input (verdict.Illegal line))
         → ¬ Rose (S.faults source.old) (S.faults source.new)
         → ¬ Rose (K.faults sink.old) (K.faults sink.new)
         → (result ≡ Status.Illegal line) ⊎ (result ≡ Status.NoMemory) }
 
-    ensures no_output { result ≡ Status.NoOutput → AskToCheck (map (λ word. word.now) words.now) × IfSome (S.left source.old) HasNoOutput }
-    ensures no_output_where_due { AskToCheck (map (λ word. word.now) words.now) → IsSomeAnd (S.left source.old) HasNoOutput
+    ensures no_output { result ≡ Status.NoOutput
+        → AskToCheck (map (λ word. word.now) words.now) × IfSome (S.left source.old) HasNoOutput }
+    ensures no_output_where_due { AskToCheck (map (λ word. word.now) words.now)
+        → IsSomeAnd (S.left source.old) HasNoOutput
         → ¬ Rose (S.faults source.old) (S.faults source.new)
         → (result ≡ Status.NoOutput) ⊎ (result ≡ Status.NoMemory) }
-    ensures no_output_writes_nothing { result ≡ Status.NoOutput → K.held sink.new ≡ K.held sink.old }
+    ensures no_output_writes_nothing { result ≡ Status.NoOutput
+        → K.held sink.new ≡ K.held sink.old }
 
-    ensures check_too_large { result ≡ Status.CheckTooLarge → AskToCheck (map (λ word. word.now) words.now) × IfSome (S.left source.old) IsTooLarge }
-    ensures check_too_large_where_due { AskToCheck (map (λ word. word.now) words.now) → IsSomeAnd (S.left source.old) IsTooLarge
+    ensures check_too_large { result ≡ Status.CheckTooLarge
+        → AskToCheck (map (λ word. word.now) words.now) × IfSome (S.left source.old) IsTooLarge }
+    ensures check_too_large_where_due { AskToCheck (map (λ word. word.now) words.now)
+        → IsSomeAnd (S.left source.old) IsTooLarge
         → ¬ Rose (S.faults source.old) (S.faults source.new)
         → (result ≡ Status.CheckTooLarge) ⊎ (result ≡ Status.NoMemory) }
-    ensures check_too_large_writes_nothing { result ≡ Status.CheckTooLarge → K.held sink.new ≡ K.held sink.old }
+    ensures check_too_large_writes_nothing { result ≡ Status.CheckTooLarge
+        → K.held sink.new ≡ K.held sink.old }
 
-    ensures read_fault { result ≡ Status.ReadFault → (AskToRun (map (λ word. word.now) words.now) ⊎ AskToWire (map (λ word. word.now) words.now) ⊎ AskToCheck (map (λ word. word.now) words.now) ⊎ AskToServe (map (λ word. word.now) words.now)) × Rose (S.faults source.old) (S.faults source.new) }
-    ensures read_fault_where_due { ¬ AskToServe (map (λ word. word.now) words.now) → S.faults source.old < S.faults source.new → result ≡ Status.ReadFault }
+    ensures read_fault { result ≡ Status.ReadFault
+        → (AskToRun (map (λ word. word.now) words.now)
+        ⊎ AskToWire (map (λ word. word.now) words.now)
+        ⊎ AskToCheck (map (λ word. word.now) words.now)
+        ⊎ AskToServe (map (λ word. word.now) words.now))
+        × Rose (S.faults source.old) (S.faults source.new) }
+    ensures read_fault_where_due { ¬ AskToServe (map (λ word. word.now) words.now)
+        → S.faults source.old < S.faults source.new → result ≡ Status.ReadFault }
     // Of a service both a read and a write may fail in one run.
-    ensures read_fault_where_served { AskToServe (map (λ word. word.now) words.now) → S.faults source.old < S.faults source.new → (result ≡ Status.ReadFault) ⊎ (result ≡ Status.WriteFault) ⊎ (result ≡ Status.NoMemory) }
-    ensures read_fault_writes_nothing { ¬ AskToWire (map (λ word. word.now) words.now) → ¬ AskToServe (map (λ word. word.now) words.now) → result ≡ Status.ReadFault → K.held sink.new ≡ K.held sink.old }
-    ensures read_fault_writes_answers { AskToWire (map (λ word. word.now) words.now) → result ≡ Status.ReadFault → IfSome (S.left source.old) (λ bytes.
+    ensures read_fault_where_served { AskToServe (map (λ word. word.now) words.now)
+        → S.faults source.old < S.faults source.new
+        → (result ≡ Status.ReadFault) ⊎ (result ≡ Status.WriteFault) ⊎ (result ≡ Status.NoMemory) }
+    ensures read_fault_writes_nothing { ¬ AskToWire (map (λ word. word.now) words.now)
+        → ¬ AskToServe (map (λ word. word.now) words.now) → result ≡ Status.ReadFault
+        → K.held sink.new ≡ K.held sink.old }
+    ensures read_fault_writes_answers { AskToWire (map (λ word. word.now) words.now)
+        → result ≡ Status.ReadFault
+        → IfSome (S.left source.old) (λ bytes.
         StopsBetween bytes (Appends (K.held sink.old) (K.held sink.new))) }
-    ensures read_fault_writes_what_was_told { (ask : AskToServe (map (λ word. word.now) words.now)) → result ≡ Status.ReadFault → IfSome (S.left source.old) (λ bytes.
+    ensures read_fault_writes_what_was_told { (ask : AskToServe (map (λ word. word.now) words.now))
+        → result ≡ Status.ReadFault
+        → IfSome (S.left source.old) (λ bytes.
         ServesFirst ask.seats bytes (Appends (K.held sink.old) (K.held sink.new))) }
 
-    ensures write_fault { result ≡ Status.WriteFault → Rose (K.faults sink.old) (K.faults sink.new) }
-    ensures write_fault_where_due { K.faults sink.old < K.faults sink.new → result ≡ Status.WriteFault }
+    ensures write_fault { result ≡ Status.WriteFault
+        → Rose (K.faults sink.old) (K.faults sink.new) }
+    ensures write_fault_where_due { K.faults sink.old < K.faults sink.new
+        → result ≡ Status.WriteFault }
     ensures write_fault_writes_a_prefix { result ≡ Status.WriteFault
-        → PerformsInPart (map (λ word. word.now) words.now) (S.left source.old) (AppendsPrefix (K.held sink.old) (K.held sink.new)) }
+        → PerformsInPart (map (λ word. word.now) words.now) (S.left source.old)
+        (AppendsPrefix (K.held sink.old) (K.held sink.new)) }
 
-    ensures no_memory_writes_nothing { ¬ AskToRunLive (map (λ word. word.now) words.now) → ¬ AskToWire (map (λ word. word.now) words.now) → ¬ AskToServe (map (λ word. word.now) words.now) → result ≡ Status.NoMemory → K.held sink.new ≡ K.held sink.old }
-    ensures no_memory_writes_first_lines { (ask : AskToRunLive (map (λ word. word.now) words.now)) → result ≡ Status.NoMemory
-        → (K.held sink.new ≡ K.held sink.old) ⊎ IfSome (S.left source.old) (λ input. SoFarRuns (settings_with ask.pages ask.patience ask.format) input (Appends (K.held sink.old) (K.held sink.new))) }
-    ensures no_memory_writes_whole_answers { AskToWire (map (λ word. word.now) words.now) → result ≡ Status.NoMemory → IfSome (S.left source.old) (λ bytes.
+    ensures no_memory_writes_nothing { ¬ AskToRunLive (map (λ word. word.now) words.now)
+        → ¬ AskToWire (map (λ word. word.now) words.now)
+        → ¬ AskToServe (map (λ word. word.now) words.now) → result ≡ Status.NoMemory
+        → K.held sink.new ≡ K.held sink.old }
+    ensures no_memory_writes_first_lines { (ask : AskToRunLive (map (λ word. word.now) words.now))
+        → result ≡ Status.NoMemory
+        → (K.held sink.new ≡ K.held sink.old)
+        ⊎ IfSome (S.left source.old) (λ input.
+        SoFarRuns (settings_with ask.pages ask.patience ask.format) input
+        (Appends (K.held sink.old) (K.held sink.new))) }
+    ensures no_memory_writes_whole_answers { AskToWire (map (λ word. word.now) words.now)
+        → result ≡ Status.NoMemory
+        → IfSome (S.left source.old) (λ bytes.
         StopsAmong bytes (WroteWhole (K.held sink.old) (K.held sink.new))) }
-    ensures no_memory_writes_whole_turns { (ask : AskToServe (map (λ word. word.now) words.now)) → result ≡ Status.NoMemory
-        → (K.held sink.new ≡ K.held sink.old) ⊎ IfSome (S.left source.old) (λ bytes. StopsServing ask.seats bytes (Appends (K.held sink.old) (K.held sink.new))) }
+    ensures no_memory_writes_whole_turns { (ask : AskToServe (map (λ word. word.now) words.now))
+        → result ≡ Status.NoMemory
+        → (K.held sink.new ≡ K.held sink.old)
+        ⊎ IfSome (S.left source.old) (λ bytes.
+        StopsServing ask.seats bytes (Appends (K.held sink.old) (K.held sink.new))) }
 
     // The bytes of a client have this fault, and what it asked before was answered.
     ensures bad_wire { (fault : WireFault) → result ≡ Status.BadWire fault
-        → AskToWire (map (λ word. word.now) words.now) × IfSome (S.left source.old) (λ bytes. BreaksOff bytes fault (Appends (K.held sink.old) (K.held sink.new))) }
+        → AskToWire (map (λ word. word.now) words.now)
+        × IfSome (S.left source.old) (λ bytes.
+        BreaksOff bytes fault (Appends (K.held sink.old) (K.held sink.new))) }
     ensures bad_wire_where_due { (fault : WireFault) → AskToWire (map (λ word. word.now) words.now)
         → IsSomeAnd (S.left source.old) (λ bytes. EndsIn bytes (Some fault))
         → ¬ Rose (S.faults source.old) (S.faults source.new)
@@ -141,20 +190,27 @@ pub fn run_notify<'a, S: Source, K: Sink + Send, R: Threads + Wait + Clock + Syn
 
     // What was read for the clients of seats has this fault, and all frames before were served.
     ensures bad_frame { (fault : FrameFault) → result ≡ Status.BadFrame fault
-        → (ask : AskToServe (map (λ word. word.now) words.now)) × IfSome (S.left source.old) (λ bytes. ServesAll ask.seats bytes (Some fault) (Appends (K.held sink.old) (K.held sink.new))) }
-    ensures bad_frame_where_due { (fault : FrameFault) (ask : AskToServe (map (λ word. word.now) words.now))
+        → (ask : AskToServe (map (λ word. word.now) words.now))
+        × IfSome (S.left source.old) (λ bytes.
+        ServesAll ask.seats bytes (Some fault)
+        (Appends (K.held sink.old) (K.held sink.new))) }
+    ensures bad_frame_where_due { (fault : FrameFault)
+        (ask : AskToServe (map (λ word. word.now) words.now))
         → IsSomeAnd (S.left source.old) (λ bytes. HasFrames ask.seats bytes (Some fault))
         → ¬ Rose (S.faults source.old) (S.faults source.new)
         → ¬ Rose (K.faults sink.old) (K.faults sink.new)
         → (result ≡ Status.BadFrame fault) ⊎ (result ≡ Status.NoMemory) }
 
     // What was left is what was read and then what is left now; all of it was read, or its first 16,777,217 bytes.
-    ensures what_was_read { AskToRun (map (λ word. word.now) words.now) → HasRead result → IfSome (S.left source.old) (λ left.
+    ensures what_was_read { AskToRun (map (λ word. word.now) words.now) → HasRead result
+        → IfSome (S.left source.old) (λ left.
         Consumes (S.left source.old) (S.left source.new) (take (INPUT_BYTES_MAX + 1) left)) }
     // The same of what is checked, or its first 67,108,865 bytes.
-    ensures what_was_checked { AskToCheck (map (λ word. word.now) words.now) → HasRead result → IfSome (S.left source.old) (λ left.
+    ensures what_was_checked { AskToCheck (map (λ word. word.now) words.now) → HasRead result
+        → IfSome (S.left source.old) (λ left.
         Consumes (S.left source.old) (S.left source.new) (take (CHECK_BYTES_MAX + 1) left)) }
-    ensures drill_reads_nothing { AskToDrill (map (λ word. word.now) words.now) → source.new ≡ source.old }
+    ensures drill_reads_nothing { AskToDrill (map (λ word. word.now) words.now)
+        → source.new ≡ source.old }
 
     ensures complete { (scenario : Scenario) → AskToRun (map (λ word. word.now) words.now)
         → IsSomeAnd (S.left source.old) (λ input. ReadsAsScenario input (Ok scenario))
@@ -176,24 +232,25 @@ pub fn run_notify<'a, S: Source, K: Sink + Send, R: Threads + Wait + Clock + Syn
         → ¬ Rose (S.faults source.old) (S.faults source.new)
         → ¬ Rose (K.faults sink.old) (K.faults sink.new)
         → (result ≡ Status.Done) ⊎ (result ≡ Status.NoMemory) }
-    ensures drill_complete { AskToDrill (map (λ word. word.now) words.now) → ¬ Rose (K.faults sink.old) (K.faults sink.new)
+    ensures drill_complete { AskToDrill (map (λ word. word.now) words.now)
+        → ¬ Rose (K.faults sink.old) (K.faults sink.new)
         → (result ≡ Status.Done) ⊎ (result ≡ Status.NoMemory) }
 {
     let asked = read_words(alloc, words);
-    perform::<S, K, R>(rt, alloc, hashes, asked, source, sink)
+    let means = Means { rt, alloc, hashes };
+    perform::<S, K, R>(&means, asked, source, sink)
 }
 
 // Does what words ask for that were read so.
 fn perform<S: Source, K: Sink + Send, R: Threads + Wait + Clock + Sync>(
-    rt: &R,
-    alloc: Global,
-    hashes: Seed,
+    means: &Means<'_, R>,
     asked: Result<Asked, WordsFault>,
     source: &mut S,
     sink: &mut K,
 ) -> Status
     requires { IfOk asked IsWithin }
-    ensures { Performed S.left S.faults K.held K.faults asked source.old source.new sink.old sink.new result }
+    ensures { Performed S.left S.faults K.held K.faults asked source.old source.new sink.old
+        sink.new result }
 {
     match asked {
         Ok(
@@ -203,33 +260,37 @@ fn perform<S: Source, K: Sink + Send, R: Threads + Wait + Clock + Sync>(
                 format,
                 live,
             },
-        ) => run::<S, K, R>(
-            rt,
-            alloc,
-            hashes,
-            pages,
-            patience,
-            format,
-            shows_if(live),
-            source,
-            sink,
-        ),
+        ) => {
+            let settings = RunSettings {
+                pages,
+                patience,
+                format,
+            };
+            run::<S, K, R>(means, settings, shows_if(live), source, sink)
+        }
         Ok(
             Asked::Drill {
                 seed,
                 sessions,
                 notes,
             },
-        ) => drill::<K, R>(rt, alloc, hashes, seed, sessions, notes, sink),
-        Ok(Asked::Wire) => wire::<R, S, K>(rt, alloc, hashes, source, sink),
-        Ok(Asked::Serve { seats }) => serve::<R, S, K>(rt, alloc, hashes, seats, source, sink),
+        ) => drill::<K, R>(means, seed, sessions, notes, sink),
+        Ok(Asked::Wire) => wire::<R, S, K>(means, source, sink),
+        Ok(Asked::Serve { seats }) => serve::<R, S, K>(means, seats, source, sink),
         Ok(
             Asked::Check {
                 pages,
                 patience,
                 format,
             },
-        ) => check::<S, K>(alloc, hashes, pages, patience, format, source, sink),
+        ) => {
+            let settings = RunSettings {
+                pages,
+                patience,
+                format,
+            };
+            check::<S, K>(means.alloc, means.hashes, settings, source, sink)
+        }
         Err(WordsFault::BadWords) => Status::BadWords,
         Err(WordsFault::Memory) => Status::NoMemory,
     }
@@ -248,53 +309,20 @@ fn shows_if(live: bool) -> Shows
 
 // Reads a scenario and runs it.
 fn run<S: Source, K: Sink + Send, R: Threads + Wait + Clock + Sync>(
-    rt: &R,
-    alloc: Global,
-    hashes: Seed,
-    pages: u32,
-    patience: u64,
-    format: Format,
+    means: &Means<'_, R>,
+    settings: RunSettings,
     shows: Shows,
     source: &mut S,
     sink: &mut K,
 ) -> Status
-    requires some_pages { PAGES_MIN ≤ pages }
-    requires few_pages { pages ≤ PAGES_MAX }
-    requires patient { 1 ≤ patience }
-    ensures done { result ≡ Status.Done → IfSome (S.left source.old) (λ input.
-        Shown shows (settings_with pages patience format) input (Appends (K.held sink.old) (K.held sink.new))) }
-    ensures done_reads_all { result ≡ Status.Done → OnSome (S.left source.old) (IsAtEnd (S.left source.new)) }
-    ensures own { IsOfRun result }
-    ensures bad_scenario { (fault : ScenarioFault) → result ≡ Status.BadScenario fault
-        → IfSome (S.left source.old) (λ input. ReadsAsScenario input (Err fault)) }
-    ensures bad_scenario_where_due { (fault : ScenarioFault)
-        → IsSomeAnd (S.left source.old) (λ input. ReadsAsScenario input (Err fault))
-        → ¬ Rose (S.faults source.old) (S.faults source.new)
-        → (result ≡ Status.BadScenario fault) ⊎ (result ≡ Status.NoMemory) }
-    ensures bad_scenario_writes_nothing { (fault : ScenarioFault) → result ≡ Status.BadScenario fault
-        → K.held sink.new ≡ K.held sink.old }
-    ensures read_fault { result ≡ Status.ReadFault → Rose (S.faults source.old) (S.faults source.new) }
-    ensures read_fault_where_due { S.faults source.old < S.faults source.new → result ≡ Status.ReadFault }
-    ensures read_fault_writes_nothing { result ≡ Status.ReadFault → K.held sink.new ≡ K.held sink.old }
-    ensures write_fault { result ≡ Status.WriteFault → Rose (K.faults sink.old) (K.faults sink.new) }
-    ensures write_fault_where_due { K.faults sink.old < K.faults sink.new → result ≡ Status.WriteFault }
-    ensures write_fault_writes_a_prefix { result ≡ Status.WriteFault → IfSome (S.left source.old) (λ input.
-        ShownInPart shows (settings_with pages patience format) input (AppendsPrefix (K.held sink.old) (K.held sink.new))) }
-    ensures no_memory_writes_nothing { (print : Print) → shows ≡ Shows.AtEnd print → result ≡ Status.NoMemory → K.held sink.new ≡ K.held sink.old }
-    ensures no_memory_writes_first_lines { result ≡ Status.NoMemory → (K.held sink.new ≡ K.held sink.old) ⊎ IfSome (S.left source.old) (λ input.
-        IsShownSoFar shows (settings_with pages patience format) input (K.held sink.old) (K.held sink.new)) }
-    ensures what_was_read { HasRead result → IfSome (S.left source.old) (λ left.
-        Consumes (S.left source.old) (S.left source.new) (take (INPUT_BYTES_MAX + 1) left)) }
-    ensures complete { (scenario : Scenario)
-        → IsSomeAnd (S.left source.old) (λ input. ReadsAsScenario input (Ok scenario))
-        → ¬ Rose (S.faults source.old) (S.faults source.new)
-        → ¬ Rose (K.faults sink.old) (K.faults sink.new)
-        → (result ≡ Status.Done) ⊎ (result ≡ Status.NoMemory) }
+    requires some_pages { PAGES_MIN ≤ settings.pages }
+    requires few_pages { settings.pages ≤ PAGES_MAX }
+    requires patient { 1 ≤ settings.patience }
+    ensures { RunEnds S.left S.faults K.held K.faults shows (settings_of settings) source.old
+        source.new sink.old sink.new result }
 {
-    match read_input(alloc, source, READ_LIMIT) {
-        Ok(input) => answer::<WordHub, K, R>(
-            rt, alloc, hashes, input, pages, patience, format, shows, sink,
-        ),
+    match read_input(means.alloc, source, READ_LIMIT) {
+        Ok(input) => answer::<WordHub, K, R>(means, input, settings, shows, sink),
         Err(Unread::Failed) => Status::ReadFault,
         Err(Unread::Memory) => Status::NoMemory,
     }
@@ -302,9 +330,7 @@ fn run<S: Source, K: Sink + Send, R: Threads + Wait + Clock + Sync>(
 
 // Makes the scenario of a drill and runs it. A text of so many sessions and notifications reads as a scenario.
 fn drill<K: Sink + Send, R: Threads + Wait + Clock + Sync>(
-    rt: &R,
-    alloc: Global,
-    hashes: Seed,
+    means: &Means<'_, R>,
     seed: u64,
     sessions: u32,
     notes: u32,
@@ -314,58 +340,54 @@ fn drill<K: Sink + Send, R: Threads + Wait + Clock + Sync>(
     requires few_sessions { sessions ≤ DRILL_SESSIONS_MAX }
     requires few_notes { notes ≤ DRILL_NOTES_MAX }
     ensures done { result ≡ Status.Done
-        → Runs (Summary seed notes) drill_settings (drill seed sessions notes) (Appends (K.held sink.old) (K.held sink.new)) }
-    ensures write_fault { result ≡ Status.WriteFault → Rose (K.faults sink.old) (K.faults sink.new) }
-    ensures write_fault_where_due { K.faults sink.old < K.faults sink.new → result ≡ Status.WriteFault }
+        → Runs (Summary seed notes) drill_settings (drill seed sessions notes)
+        (Appends (K.held sink.old) (K.held sink.new)) }
+    ensures write_fault { result ≡ Status.WriteFault
+        → Rose (K.faults sink.old) (K.faults sink.new) }
+    ensures write_fault_where_due { K.faults sink.old < K.faults sink.new
+        → result ≡ Status.WriteFault }
     ensures write_fault_writes_a_prefix { result ≡ Status.WriteFault
-        → Runs (Summary seed notes) drill_settings (drill seed sessions notes) (AppendsPrefix (K.held sink.old) (K.held sink.new)) }
-    ensures no_memory_writes_nothing { result ≡ Status.NoMemory → K.held sink.new ≡ K.held sink.old }
-    ensures only { (result ≡ Status.Done) ⊎ (result ≡ Status.WriteFault) ⊎ (result ≡ Status.NoMemory) }
+        → Runs (Summary seed notes) drill_settings (drill seed sessions notes)
+        (AppendsPrefix (K.held sink.old) (K.held sink.new)) }
+    ensures no_memory_writes_nothing { result ≡ Status.NoMemory
+        → K.held sink.new ≡ K.held sink.old }
+    ensures only { (result ≡ Status.Done) ⊎ (result ≡ Status.WriteFault)
+        ⊎ (result ≡ Status.NoMemory) }
 {
-    let Ok(input) = drill_text(alloc, seed, sessions, notes) else {
+    let Ok(input) = drill_text(means.alloc, seed, sessions, notes) else {
         return Status::NoMemory;
     };
     let shows = Shows::AtEnd(Print::Summary { seed, notes });
-    answer::<WordHub, K, R>(
-        rt,
-        alloc,
-        hashes,
-        input,
-        PAGES_MAX,
-        PATIENCE_MAX,
-        Format::One,
-        shows,
-        sink,
-    )
+    let settings = RunSettings {
+        pages: PAGES_MAX,
+        patience: PATIENCE_MAX,
+        format: Format::One,
+    };
+    answer::<WordHub, K, R>(means, input, settings, shows, sink)
 }
 
 // Runs an input that was read, over a hub of this type, and lets the input go once it is a scenario. The scenario is not freed: the
 // program ends with this answer, and to free it piece by piece is no small part of a run.
 fn answer<H: Hub + Sync + Drop, K: Sink + Send, R: Threads + Wait + Clock + Sync>(
-    rt: &R,
-    alloc: Global,
-    hashes: Seed,
+    means: &Means<'_, R>,
     input: Vec<u8>,
-    pages: u32,
-    patience: u64,
-    format: Format,
+    settings: RunSettings,
     shows: Shows,
     sink: &mut K,
 ) -> Status
-    requires some_pages { PAGES_MIN ≤ pages }
-    requires few_pages { pages ≤ PAGES_MAX }
-    requires patient { 1 ≤ patience }
-    ensures answers { Answers shows (settings_with pages patience format) input.items (K.held sink.old) (K.held sink.new) (K.faults sink.old) (K.faults sink.new) result }
+    requires some_pages { PAGES_MIN ≤ settings.pages }
+    requires few_pages { settings.pages ≤ PAGES_MAX }
+    requires patient { 1 ≤ settings.patience }
+    ensures answers { Answers shows (settings_of settings) input.items (K.held sink.old)
+        (K.held sink.new) (K.faults sink.old) (K.faults sink.new) result }
     ensures later { K.faults sink.old ≤ K.faults sink.new }
     ensures rose { K.faults sink.old < K.faults sink.new → result ≡ Status.WriteFault }
 {
-    let reading = read_scenario(alloc, hashes, input.as_slice());
+    let reading = read_scenario(means.alloc, means.hashes, input.as_slice());
     drop(input);
     match reading {
         Ok(Ok(scenario)) => {
-            let status = play::<H, K, R>(
-                rt, alloc, hashes, &scenario, pages, patience, format, shows, sink,
-            );
+            let status = play::<H, K, R>(means, &scenario, settings, shows, sink);
             mem::forget(scenario);
             status
         }
@@ -376,33 +398,24 @@ fn answer<H: Hub + Sync + Drop, K: Sink + Send, R: Threads + Wait + Clock + Sync
 
 // Runs a scenario and shows what is asked for, at the end or as it comes.
 fn play<H: Hub + Sync + Drop, K: Sink + Send, R: Threads + Wait + Clock + Sync>(
-    rt: &R,
-    alloc: Global,
-    hashes: Seed,
+    means: &Means<'_, R>,
     scenario: &Scenario,
-    pages: u32,
-    patience: u64,
-    format: Format,
+    settings: RunSettings,
     shows: Shows,
     sink: &mut K,
 ) -> Status
     requires sound { IsSound scenario.now }
-    requires some_pages { PAGES_MIN ≤ pages }
-    requires few_pages { pages ≤ PAGES_MAX }
-    requires patient { 1 ≤ patience }
+    requires some_pages { PAGES_MIN ≤ settings.pages }
+    requires few_pages { settings.pages ≤ PAGES_MAX }
+    requires patient { 1 ≤ settings.patience }
     ensures answers { (input : List ℕ) → ReadsAsScenario input (Ok scenario.now)
-        → Answers shows (settings_with pages patience format) input (K.held sink.old) (K.held sink.new) (K.faults sink.old) (K.faults sink.new) result }
+        → Answers shows (settings_of settings) input (K.held sink.old) (K.held sink.new)
+        (K.faults sink.old) (K.faults sink.new) result }
     ensures later { K.faults sink.old ≤ K.faults sink.new }
     ensures rose { K.faults sink.old < K.faults sink.new → result ≡ Status.WriteFault }
 {
     match shows {
-        Shows::AtEnd(print) => {
-            run_scenario::<H, K, R>(
-                rt, alloc, hashes, scenario, pages, patience, format, print, sink,
-            )
-        }
-        Shows::Live => run_scenario_live::<H, K, R>(
-            rt, alloc, hashes, scenario, pages, patience, format, sink,
-        ),
+        Shows::AtEnd(print) => { run_scenario::<H, K, R>(means, scenario, settings, print, sink) }
+        Shows::Live => run_scenario_live::<H, K, R>(means, scenario, settings, sink),
     }
 }

@@ -1,51 +1,61 @@
 ghost use Rattle.std.specs.Prelude.{◌≡◌, ◌⊎◌, ◌<◌, ◌≤◌};
 ghost use Rattle.std.specs.Io.KnownBytes.{Appends};
 ghost use Rattle.pgn_base.specs.declared.limits.TheConstants.{PAGES_MIN, PAGES_MAX};
-ghost use Rattle.pgn_base.specs.Outside.{AppendsPrefix, HasCause, Rose};
+ghost use Rattle.pgn_base.specs.Outside.{AppendsPrefix, Rose};
 ghost use Rattle.pgn_language.specs.Inputs.{IsSound};
 ghost use Rattle.pgn_model.specs.Text.{brief, text};
-ghost use Rattle.pgn_run.specs.Run.{RunsOver, HasWritten, printed, settings_with};
+ghost use Rattle.pgn_run.specs.Run.{RunsOver, HasWritten, printed, settings_of};
 
-use crate::{Print, Status};
-use pgn_base::{Failed, Format, Seed, Sink};
+use crate::{Means, Print, RunSettings, Status};
+use pgn_base::{Failed, Sink};
 use pgn_drill::{received, summary};
 use pgn_hub::Hub;
 use pgn_language::Scenario;
 use pgn_text::render;
 use pgn_threads::{Run, run_on_hub};
-use std::alloc::Global;
 use std::mem;
 use std::sync::Wait;
 use std::thread::Threads;
 use std::time::Clock;
 
-/// Runs a scenario over a hub of this type, with a limit of so many pages and entries of this format, its sessions side by side, where
-/// an await takes so many looks, made or slept over. Hashes are made with this seed. Writes what is asked for of the run to the sink. The
-/// run is not freed: the program ends with this answer, and to free it piece by piece is a tenth of it.
+/// Runs a scenario over a hub of this type with these settings, its sessions side by side, and writes what is asked for of the run to the
+/// sink. The run is not freed: the program ends with this answer, and to free it piece by piece is a tenth of it.
 pub fn run_scenario<H: Hub + Sync + Drop, K: Sink, R: Threads + Wait + Clock + Sync>(
-    rt: &R,
-    alloc: Global,
-    hashes: Seed,
+    means: &Means<'_, R>,
     scenario: &Scenario,
-    pages: u32,
-    patience: u64,
-    format: Format,
+    settings: RunSettings,
     print: Print,
     sink: &mut K,
 ) -> Status
     requires sound { IsSound scenario.now }
-    requires some_pages { PAGES_MIN ≤ pages }
-    requires few_pages { pages ≤ PAGES_MAX }
-    requires patient { 1 ≤ patience }
-    ensures done { result ≡ Status.Done → RunsOver print scenario.now (settings_with pages patience format) (Appends (K.held sink.old) (K.held sink.new)) }
-    ensures write_fault { result ≡ Status.WriteFault → Rose (K.faults sink.old) (K.faults sink.new) }
-    ensures write_fault_where_due { K.faults sink.old < K.faults sink.new → result ≡ Status.WriteFault }
-    ensures write_fault_writes_a_prefix { result ≡ Status.WriteFault → RunsOver print scenario.now (settings_with pages patience format) (AppendsPrefix (K.held sink.old) (K.held sink.new)) }
-    ensures no_memory_writes_nothing { result ≡ Status.NoMemory → K.held sink.new ≡ K.held sink.old }
-    ensures only { (result ≡ Status.Done) ⊎ (result ≡ Status.WriteFault) ⊎ (result ≡ Status.NoMemory) }
+    requires some_pages { PAGES_MIN ≤ settings.pages }
+    requires few_pages { settings.pages ≤ PAGES_MAX }
+    requires patient { 1 ≤ settings.patience }
+    ensures done { result ≡ Status.Done
+        → RunsOver print scenario.now (settings_of settings)
+        (Appends (K.held sink.old) (K.held sink.new)) }
+    ensures write_fault { result ≡ Status.WriteFault
+        → Rose (K.faults sink.old) (K.faults sink.new) }
+    ensures write_fault_where_due { K.faults sink.old < K.faults sink.new
+        → result ≡ Status.WriteFault }
+    ensures write_fault_writes_a_prefix { result ≡ Status.WriteFault
+        → RunsOver print scenario.now (settings_of settings)
+        (AppendsPrefix (K.held sink.old) (K.held sink.new)) }
+    ensures no_memory_writes_nothing { result ≡ Status.NoMemory
+        → K.held sink.new ≡ K.held sink.old }
+    ensures only { (result ≡ Status.Done) ⊎ (result ≡ Status.WriteFault)
+        ⊎ (result ≡ Status.NoMemory) }
     ensures later { K.faults sink.old ≤ K.faults sink.new }
 {
-    match run_on_hub::<H, R>(rt, alloc, hashes, scenario, pages, patience, format) {
+    match run_on_hub::<H, R>(
+        means.rt,
+        means.alloc,
+        means.hashes,
+        scenario,
+        settings.pages,
+        settings.patience,
+        settings.format,
+    ) {
         Ok(played) => {
             let status = write_run(scenario, print, &played, sink);
             mem::forget(played);
@@ -57,7 +67,9 @@ pub fn run_scenario<H: Hub + Sync + Drop, K: Sink, R: Threads + Wait + Clock + S
 
 // Writes what is asked for of a run.
 fn write_run<K: Sink>(scenario: &Scenario, print: Print, run: &Run, sink: &mut K) -> Status
-    ensures written { HasWritten (printed print scenario.now run.now.journal.items run.now.traces.items) (K.held sink.old) (K.held sink.new) (K.faults sink.old) (K.faults sink.new) result }
+    ensures written { HasWritten
+        (printed print scenario.now run.now.journal.items run.now.traces.items) (K.held sink.old)
+        (K.held sink.new) (K.faults sink.old) (K.faults sink.new) result }
     ensures later { K.faults sink.old ≤ K.faults sink.new }
     ensures rose { K.faults sink.old < K.faults sink.new → result ≡ Status.WriteFault }
 {
@@ -69,7 +81,8 @@ fn write_run<K: Sink>(scenario: &Scenario, print: Print, run: &Run, sink: &mut K
 
 // Writes the text of a run.
 fn write_text<K: Sink>(scenario: &Scenario, run: &Run, sink: &mut K) -> Status
-    ensures written { HasWritten (text scenario.now run.now.journal.items run.now.traces.items) (K.held sink.old) (K.held sink.new) (K.faults sink.old) (K.faults sink.new) result }
+    ensures written { HasWritten (text scenario.now run.now.journal.items run.now.traces.items)
+        (K.held sink.old) (K.held sink.new) (K.faults sink.old) (K.faults sink.new) result }
     ensures later { K.faults sink.old ≤ K.faults sink.new }
     ensures rose { K.faults sink.old < K.faults sink.new → result ≡ Status.WriteFault }
 {
@@ -82,7 +95,8 @@ fn write_text<K: Sink>(scenario: &Scenario, run: &Run, sink: &mut K) -> Status
 
 // Writes the summary of a run. More deliveries than the summary can count no memory can hold.
 fn write_summary<K: Sink>(seed: u64, notes: u32, run: &Run, sink: &mut K) -> Status
-    ensures written { HasWritten (brief seed notes run.now.journal.items run.now.traces.items) (K.held sink.old) (K.held sink.new) (K.faults sink.old) (K.faults sink.new) result }
+    ensures written { HasWritten (brief seed notes run.now.journal.items run.now.traces.items)
+        (K.held sink.old) (K.held sink.new) (K.faults sink.old) (K.faults sink.new) result }
     ensures later { K.faults sink.old ≤ K.faults sink.new }
     ensures rose { K.faults sink.old < K.faults sink.new → result ≡ Status.WriteFault }
 {

@@ -16,6 +16,7 @@ use pgn_seats::{Desk, Inbox};
 use pgn_session::{FlagPlan, Session};
 use pgn_turns::{Ask, quit_at_end};
 use std::alloc::{AllocError, Global};
+use std::vec::IntoIter;
 
 /// What each seat of a service has, in order: the inbox of what it is asked, the desk that serves it, and its callers.
 pub(crate) struct Seating<P> {
@@ -32,7 +33,9 @@ pub(crate) fn open<P: PassView + Send + Drop, H: Hub<Pass = P> + Drop>(
 ) -> Result<(H, Seating<P>), AllocError>
     requires some { 1 ≤ seats }
     requires few { seats ≤ SECTIONS_MAX }
-    ensures { IfOk result (λ opened. IsOpened (H.is_pass opened.0) (H.shape opened.0) P.known seats opened.1.inboxes.items opened.1.desks.items opened.1.callers.items) }
+    ensures { IfOk result (λ opened.
+        IsOpened (H.is_pass opened.0) (H.shape opened.0) P.known seats opened.1.inboxes.items
+        opened.1.desks.items opened.1.callers.items) }
 {
     let setup = Setup::new(PAGES_DEFAULT, seats, seats_for(alloc, seats)?, Format::One);
     let (hub, passes) = H::open(alloc, setup)?;
@@ -77,7 +80,9 @@ fn seating_for<P: PassView + Send + Drop>(
     requires some { 1 ≤ seats }
     requires few { seats ≤ SECTIONS_MAX }
     requires opened { map P.known passes.items ≡ opened_passes 1 (service_shape seats).seats }
-    ensures { IfOk result (λ seating. AreSeated P.known seats passes.items seating.inboxes.items seating.desks.items seating.callers.items) }
+    ensures { IfOk result (λ seating.
+        AreSeated P.known seats passes.items seating.inboxes.items seating.desks.items
+        seating.callers.items) }
 {
     let mut seating = Seating {
         inboxes: Vec::new(alloc),
@@ -124,10 +129,36 @@ fn seat_all<P: PassView + Send + Drop>(
     requires some { 1 ≤ seats }
     requires few { seats ≤ SECTIONS_MAX }
     requires opened { map P.known passes.items ≡ opened_passes 1 (service_shape seats).seats }
-    requires empty { (seating.old.inboxes.items ≡ []) × (seating.old.desks.items ≡ []) × (seating.old.callers.items ≡ []) }
-    ensures { OnOk result (AreSeated P.known seats passes.items seating.new.inboxes.items seating.new.desks.items seating.new.callers.items) }
+    requires empty { (seating.old.inboxes.items ≡ []) × (seating.old.desks.items ≡ [])
+        × (seating.old.callers.items ≡ []) }
+    ensures { OnOk result
+        (AreSeated P.known seats passes.items seating.new.inboxes.items seating.new.desks.items
+        seating.new.callers.items) }
 {
     let mut passes = passes.into_iter();
+    let seated = seat_each(alloc, hashes, seats, &mut passes, seating);
+    drop(passes);
+    seated
+}
+
+// Seats a session for each of the passes, which are lent, so that they are dropped where all is done.
+fn seat_each<P: PassView + Send + Drop>(
+    alloc: Global,
+    hashes: Seed,
+    seats: u32,
+    passes: &mut IntoIter<P, Global>,
+    seating: &mut Seating<P>,
+) -> Result<(), AllocError>
+    requires some { 1 ≤ seats }
+    requires few { seats ≤ SECTIONS_MAX }
+    requires opened { map P.known passes.old.rest.items ≡ opened_passes 1
+        (service_shape seats).seats }
+    requires empty { (seating.old.inboxes.items ≡ []) × (seating.old.desks.items ≡ [])
+        × (seating.old.callers.items ≡ []) }
+    ensures { OnOk result
+        (AreSeated P.known seats passes.old.rest.items seating.new.inboxes.items
+        seating.new.desks.items seating.new.callers.items) }
+{
     for place in 0..seats {
         let Some(pass) = passes.next() else {
             unreachable!();
@@ -214,7 +245,10 @@ fn sit<P: PassView + Send + Drop>(
     seating: &mut Seating<P>,
 ) -> Result<(), AllocError>
     requires some { 1 ≤ seats }
-    ensures { OnOk result (SitsMore (seat_notes seats) session seating.old.inboxes.items seating.new.inboxes.items seating.old.desks.items seating.new.desks.items seating.old.callers.items seating.new.callers.items) }
+    ensures { OnOk result
+        (SitsMore (seat_notes seats) session seating.old.inboxes.items seating.new.inboxes.items
+        seating.old.desks.items seating.new.desks.items seating.old.callers.items
+        seating.new.callers.items) }
 {
     let Ok((put, asks)) = open_inbox(alloc, &mut seating.inboxes) else {
         drop(session);
@@ -237,7 +271,8 @@ fn open_inbox(
     alloc: Global,
     inboxes: &mut Vec<Inbox>,
 ) -> Result<(OutletPass<Option<Ask>>, OutletPass<Option<Ask>>), AllocError>
-    ensures { IfOk result (λ passes. GivesInbox inboxes.old.items inboxes.new.items passes.0 passes.1) }
+    ensures { IfOk result (λ passes.
+        GivesInbox inboxes.old.items inboxes.new.items passes.0 passes.1) }
 {
     let (inbox, put, asks) = Outlet::open(alloc)?;
     match inboxes.push(inbox) {

@@ -13,5 +13,5 @@ write_rest-requires-clause-takes g c = ap (λ (v : Hand Saying). v.takes) c.clos
 
 pub returns : goal.returns
 returns g c =
-    rest-written g.K.Sink.held g.K.Sink.faults (knows c.args.tells.pass) (knows c.args.writing.takes) (knows c.close.new.pass) (knows c.write_rest.new.pass) c.args.sink.now c.write_rest.new.sink c.end_writing.new.sink c.args.writing.out
-    c.write_rest.new.out c.end_writing.new.out c.args.over c.close.ensures.taken_over c.write_rest.ensures.wrote c.write_rest.ensures.has_all c.end_writing.ensures.puts c.end_writing.ensures.sent
+    rest-written g.K.Sink.held g.K.Sink.faults (knows c.args.tells.pass) (knows c.args.writing.takes) (knows c.close.new.pass) (knows c.write_rest.new.pass) c.args.sink.now c.write_rest.new.sink c.args.writing.out
+    c.write_rest.new.out c.close.ensures.taken_over c.write_rest.ensures.wrote c.write_rest.ensures.has_all c.write_rest.ensures.sent

@@ -17,12 +17,12 @@ run_live-requires-clause-ready g c κs within =
 pub run_live-requires-clause-numbered : goal.run_live-requires-clause-numbered
 run_live-requires-clause-numbered g c κs within =
     let given = ap (λ (sessions : List (Session g.row.H-Pass.Denot)). map script_of sessions) c.as_mut_slice.ensures.value ∙ c.in-Ok.ensures.scripts in
-    still-numbered c.args.scenario.now (g.H.Hub.shape c.in-Ok.hub) c.args.pages c.args.patience c.args.format c.as_mut_slice.result.now c.requires.sound c.in-Ok.ensures.shape given
+    still-numbered c.args.scenario.now (g.H.Hub.shape c.in-Ok.hub) c.args.settings.pages c.args.settings.patience c.args.settings.format c.as_mut_slice.result.now c.requires.sound c.in-Ok.ensures.shape given
 
 pub run_live-requires-clause-few : goal.run_live-requires-clause-few
 run_live-requires-clause-few g c κs within =
     let given = ap (λ (sessions : List (Session g.row.H-Pass.Denot)). map script_of sessions) c.as_mut_slice.ensures.value ∙ c.in-Ok.ensures.scripts in
-    still-few c.args.scenario.now (g.H.Hub.shape c.in-Ok.hub) c.args.pages c.args.patience c.args.format c.as_mut_slice.result.now c.requires.sound c.in-Ok.ensures.shape given
+    still-few c.args.scenario.now (g.H.Hub.shape c.in-Ok.hub) c.args.settings.pages c.args.settings.patience c.args.settings.format c.as_mut_slice.result.now c.requires.sound c.in-Ok.ensures.shape given
 
 pub finish_live-requires-clause-over : goal.finish_live-requires-clause-over
 finish_live-requires-clause-over g c κs within =
@@ -38,7 +38,7 @@ finish_live-requires-clause-all g c κs within =
     let back = written-back new (drop (length new) c.in-Ok.sessions.items) c.in-Ok.sessions.len (sym count) in
     let scripts = c.run_live.ensures.scripts ∙ ap (λ (sessions : List (Session g.row.H-Pass.Denot)). map script_of sessions) c.as_mut_slice.ensures.value ∙ c.in-Ok.ensures.scripts in
     ap (λ (sessions : List (Session g.row.H-Pass.Denot)). map (λ (s : Session g.row.H-Pass.Denot). s.section.no) sessions) back
-    ∙ all-numbers c.args.scenario.now (g.H.Hub.shape c.in-Ok.hub) c.args.pages c.args.patience c.args.format new c.requires.sound c.in-Ok.ensures.shape scripts
+    ∙ all-numbers c.args.scenario.now (g.H.Hub.shape c.in-Ok.hub) c.args.settings.pages c.args.settings.patience c.args.settings.format new c.requires.sound c.in-Ok.ensures.shape scripts
 
 pub returns-in-Ok-run_live-clause-done : goal.returns-in-Ok-run_live-clause-done
 returns-in-Ok-run_live-clause-done g c = λ e.
@@ -46,8 +46,8 @@ returns-in-Ok-run_live-clause-done g c = λ e.
     let count = same-count script_of new c.as_mut_slice.result.now c.run_live.ensures.scripts ∙ c.as_mut_slice.ensures.len in
     let back = written-back new (drop (length new) c.in-Ok.sessions.items) c.in-Ok.sessions.len (sym count) in
     let scripts = c.run_live.ensures.scripts ∙ ap (λ (sessions : List (Session g.row.H-Pass.Denot)). map script_of sessions) c.as_mut_slice.ensures.value ∙ c.in-Ok.ensures.scripts in
-    live-over c.args.scenario.now (g.H.Hub.shape c.in-Ok.hub) c.args.pages c.args.patience c.args.format new (Appends (g.K.Sink.held c.args.sink.now) (g.K.Sink.held c.run_live.new.sink)) (Appends (g.K.Sink.held c.args.sink.now) (g.K.Sink.held c.finish_live.new.sink)) (Appends (g.K.Sink.held c.run_live.new.sink) (g.K.Sink.held c.finish_live.new.sink))
-    (still-opened c.args.scenario.now (g.H.Hub.shape c.in-Ok.hub) c.args.pages c.args.patience c.args.format new c.requires.sound c.in-Ok.ensures.shape scripts) (Appends-more (g.K.Sink.held c.args.sink.now) (g.K.Sink.held c.run_live.new.sink) (g.K.Sink.held c.finish_live.new.sink)) (rw c.as_slice-sections.ensures at c.in-Ok-run_live.ensures.done)
+    live-over c.args.scenario.now (g.H.Hub.shape c.in-Ok.hub) c.args.settings.pages c.args.settings.patience c.args.settings.format new (Appends (g.K.Sink.held c.args.sink.now) (g.K.Sink.held c.run_live.new.sink)) (Appends (g.K.Sink.held c.args.sink.now) (g.K.Sink.held c.finish_live.new.sink)) (Appends (g.K.Sink.held c.run_live.new.sink) (g.K.Sink.held c.finish_live.new.sink))
+    (still-opened c.args.scenario.now (g.H.Hub.shape c.in-Ok.hub) c.args.settings.pages c.args.settings.patience c.args.settings.format new c.requires.sound c.in-Ok.ensures.shape scripts) (Appends-more (g.K.Sink.held c.args.sink.now) (g.K.Sink.held c.run_live.new.sink) (g.K.Sink.held c.finish_live.new.sink)) (rw c.as_slice-sections.ensures at c.in-Ok-run_live.ensures.done)
     (subst (λ (xs : List (Session g.row.H-Pass.Denot)). EndsOver c.args.scenario.now (g.H.Hub.shape c.in-Ok.hub) xs (Appends (g.K.Sink.held c.run_live.new.sink) (g.K.Sink.held c.finish_live.new.sink))) back (c.finish_live.ensures.done e))
 
 pub returns-in-Ok-run_live-clause-write_fault_writes_a_prefix : goal.returns-in-Ok-run_live-clause-write_fault_writes_a_prefix
@@ -56,8 +56,8 @@ returns-in-Ok-run_live-clause-write_fault_writes_a_prefix g c = λ e.
     let count = same-count script_of new c.as_mut_slice.result.now c.run_live.ensures.scripts ∙ c.as_mut_slice.ensures.len in
     let back = written-back new (drop (length new) c.in-Ok.sessions.items) c.in-Ok.sessions.len (sym count) in
     let scripts = c.run_live.ensures.scripts ∙ ap (λ (sessions : List (Session g.row.H-Pass.Denot)). map script_of sessions) c.as_mut_slice.ensures.value ∙ c.in-Ok.ensures.scripts in
-    inl (live-over c.args.scenario.now (g.H.Hub.shape c.in-Ok.hub) c.args.pages c.args.patience c.args.format new (Appends (g.K.Sink.held c.args.sink.now) (g.K.Sink.held c.run_live.new.sink)) (AppendsPrefix (g.K.Sink.held c.args.sink.now) (g.K.Sink.held c.finish_live.new.sink)) (AppendsPrefix (g.K.Sink.held c.run_live.new.sink) (g.K.Sink.held c.finish_live.new.sink))
-    (still-opened c.args.scenario.now (g.H.Hub.shape c.in-Ok.hub) c.args.pages c.args.patience c.args.format new c.requires.sound c.in-Ok.ensures.shape scripts) (Appends-prefix (g.K.Sink.held c.args.sink.now) (g.K.Sink.held c.run_live.new.sink) (g.K.Sink.held c.finish_live.new.sink)) (rw c.as_slice-sections.ensures at c.in-Ok-run_live.ensures.done)
+    inl (live-over c.args.scenario.now (g.H.Hub.shape c.in-Ok.hub) c.args.settings.pages c.args.settings.patience c.args.settings.format new (Appends (g.K.Sink.held c.args.sink.now) (g.K.Sink.held c.run_live.new.sink)) (AppendsPrefix (g.K.Sink.held c.args.sink.now) (g.K.Sink.held c.finish_live.new.sink)) (AppendsPrefix (g.K.Sink.held c.run_live.new.sink) (g.K.Sink.held c.finish_live.new.sink))
+    (still-opened c.args.scenario.now (g.H.Hub.shape c.in-Ok.hub) c.args.settings.pages c.args.settings.patience c.args.settings.format new c.requires.sound c.in-Ok.ensures.shape scripts) (Appends-prefix (g.K.Sink.held c.args.sink.now) (g.K.Sink.held c.run_live.new.sink) (g.K.Sink.held c.finish_live.new.sink)) (rw c.as_slice-sections.ensures at c.in-Ok-run_live.ensures.done)
     (subst (λ (xs : List (Session g.row.H-Pass.Denot)). EndsOver c.args.scenario.now (g.H.Hub.shape c.in-Ok.hub) xs (AppendsPrefix (g.K.Sink.held c.run_live.new.sink) (g.K.Sink.held c.finish_live.new.sink))) back (c.finish_live.ensures.write_fault_writes_a_prefix e)))
 
 pub returns-in-Ok-run_live-clause-no_memory_writes_first_lines : goal.returns-in-Ok-run_live-clause-no_memory_writes_first_lines
@@ -65,7 +65,7 @@ returns-in-Ok-run_live-clause-no_memory_writes_first_lines g c = λ e.
     let new : List (Session g.row.H-Pass.Denot) = c.run_live.new.sessions in
     let scripts = c.run_live.ensures.scripts ∙ ap (λ (sessions : List (Session g.row.H-Pass.Denot)). map script_of sessions) c.as_mut_slice.ensures.value ∙ c.in-Ok.ensures.scripts in
     inr (rw (c.finish_live.ensures.no_memory_writes_nothing e)
-    (so_far-over c.args.scenario.now (g.H.Hub.shape c.in-Ok.hub) c.args.pages c.args.patience c.args.format new c.requires.sound c.in-Ok.ensures.shape scripts (Appends (g.K.Sink.held c.args.sink.now) (g.K.Sink.held c.run_live.new.sink)) c.run_live.ensures.lawful
+    (so_far-over c.args.scenario.now (g.H.Hub.shape c.in-Ok.hub) c.args.settings.pages c.args.settings.patience c.args.settings.format new c.requires.sound c.in-Ok.ensures.shape scripts (Appends (g.K.Sink.held c.args.sink.now) (g.K.Sink.held c.run_live.new.sink)) c.run_live.ensures.lawful
     (whole-first c.args.scenario.now.sections (logs_of new) (Appends (g.K.Sink.held c.args.sink.now) (g.K.Sink.held c.run_live.new.sink)) (rw c.as_slice-sections.ensures at c.in-Ok-run_live.ensures.done))))
 
 pub returns-in-Ok-run_live-clause-write_fault : goal.returns-in-Ok-run_live-clause-write_fault
@@ -78,10 +78,10 @@ pub returns-in-Err-Write-clause-write_fault_writes_a_prefix : goal.returns-in-Er
 returns-in-Err-Write-clause-write_fault_writes_a_prefix g c = λ e.
     let new : List (Session g.row.H-Pass.Denot) = c.run_live.new.sessions in
     let scripts = c.run_live.ensures.scripts ∙ ap (λ (sessions : List (Session g.row.H-Pass.Denot)). map script_of sessions) c.as_mut_slice.ensures.value ∙ c.in-Ok.ensures.scripts in
-    inr (early-over c.args.scenario.now (g.H.Hub.shape c.in-Ok.hub) c.args.pages c.args.patience c.args.format new c.requires.sound c.in-Ok.ensures.shape scripts (AppendsPrefix (g.K.Sink.held c.args.sink.now) (g.K.Sink.held c.run_live.new.sink)) c.run_live.ensures.lawful (rw c.as_slice-sections.ensures at (c.run_live.ensures.write_writes_a_prefix (c.in-Err-Write.is ∙ ap Err c.in-Err-Write.field-0-is))))
+    inr (early-over c.args.scenario.now (g.H.Hub.shape c.in-Ok.hub) c.args.settings.pages c.args.settings.patience c.args.settings.format new c.requires.sound c.in-Ok.ensures.shape scripts (AppendsPrefix (g.K.Sink.held c.args.sink.now) (g.K.Sink.held c.run_live.new.sink)) c.run_live.ensures.lawful (rw c.as_slice-sections.ensures at (c.run_live.ensures.write_writes_a_prefix (c.in-Err-Write.is ∙ ap Err c.in-Err-Write.field-0-is))))
 
 pub returns-in-Err-Memory-clause-no_memory_writes_first_lines : goal.returns-in-Err-Memory-clause-no_memory_writes_first_lines
 returns-in-Err-Memory-clause-no_memory_writes_first_lines g c = λ e.
     let new : List (Session g.row.H-Pass.Denot) = c.run_live.new.sessions in
     let scripts = c.run_live.ensures.scripts ∙ ap (λ (sessions : List (Session g.row.H-Pass.Denot)). map script_of sessions) c.as_mut_slice.ensures.value ∙ c.in-Ok.ensures.scripts in
-    inr (so_far-over c.args.scenario.now (g.H.Hub.shape c.in-Ok.hub) c.args.pages c.args.patience c.args.format new c.requires.sound c.in-Ok.ensures.shape scripts (Appends (g.K.Sink.held c.args.sink.now) (g.K.Sink.held c.run_live.new.sink)) c.run_live.ensures.lawful (rw c.as_slice-sections.ensures at (c.run_live.ensures.memory_writes_first_items (c.in-Err-Memory.is ∙ ap Err c.in-Err-Memory.field-0-is))))
+    inr (so_far-over c.args.scenario.now (g.H.Hub.shape c.in-Ok.hub) c.args.settings.pages c.args.settings.patience c.args.settings.format new c.requires.sound c.in-Ok.ensures.shape scripts (Appends (g.K.Sink.held c.args.sink.now) (g.K.Sink.held c.run_live.new.sink)) c.run_live.ensures.lawful (rw c.as_slice-sections.ensures at (c.run_live.ensures.memory_writes_first_items (c.in-Err-Memory.is ∙ ap Err c.in-Err-Memory.field-0-is))))

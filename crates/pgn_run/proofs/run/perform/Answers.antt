@@ -35,7 +35,7 @@ serve-requires-clause-few g c κs within = (subst (λ (r : Result Asked WordsFau
 pub returns-in-Ok-Run : goal.returns-in-Ok-Run
 returns-in-Ok-Run g c =
     subst (λ (r : Result Asked WordsFault). Performed g.S.Source.left g.S.Source.faults g.K.Sink.held g.K.Sink.faults r c.args.source.now c.run.new.source c.args.sink.now c.run.new.sink c.run.result) (sym (c.in-Ok-Run.is ∙ ap Ok (rw c.in-Ok-Run.is at c.in-Ok-Run.field-0-is)))
-    (subst (λ (s : Shows). RunEnds g.S.Source.left g.S.Source.faults g.K.Sink.held g.K.Sink.faults s (settings_with c.in-Ok-Run.pages c.in-Ok-Run.patience c.in-Ok-Run.format) c.args.source.now c.run.new.source c.args.sink.now c.run.new.sink c.run.result) c.shows_if.ensures (record { done = c.run.ensures.done; done_reads_all = c.run.ensures.done_reads_all; own = c.run.ensures.own; bad_scenario = c.run.ensures.bad_scenario; bad_scenario_where_due = c.run.ensures.bad_scenario_where_due; bad_scenario_writes_nothing = c.run.ensures.bad_scenario_writes_nothing; read_fault = c.run.ensures.read_fault; read_fault_where_due = c.run.ensures.read_fault_where_due; read_fault_writes_nothing = c.run.ensures.read_fault_writes_nothing; write_fault = c.run.ensures.write_fault; write_fault_where_due = c.run.ensures.write_fault_where_due; write_fault_writes_a_prefix = c.run.ensures.write_fault_writes_a_prefix; no_memory_writes_nothing = c.run.ensures.no_memory_writes_nothing; no_memory_writes_first_lines = c.run.ensures.no_memory_writes_first_lines; what_was_read = c.run.ensures.what_was_read; complete = c.run.ensures.complete }))
+    (subst (λ (s : Shows). RunEnds g.S.Source.left g.S.Source.faults g.K.Sink.held g.K.Sink.faults s (settings_with c.in-Ok-Run.pages c.in-Ok-Run.patience c.in-Ok-Run.format) c.args.source.now c.run.new.source c.args.sink.now c.run.new.sink c.run.result) c.shows_if.ensures c.run.ensures)
 
 pub returns-in-Ok-Drill : goal.returns-in-Ok-Drill
 returns-in-Ok-Drill g c =

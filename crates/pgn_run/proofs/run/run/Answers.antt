@@ -1,30 +1,19 @@
-use Rattle.pgn_run.specs.Run.{settings_with}
-use Rattle.pgn_run.proofs.RunLaws.{done-runs, done-at-end, write-fault-runs, bad-scenario-reads, faulty-refused, memory-nothing, memory-shows, own-run, reads-done}
+use Rattle.std.proofs.Common.{Err, ap, ◌∙◌}
+use Rattle.pgn_run.specs.Run.{settings_of}
+use Rattle.pgn_run.proofs.CommandLaws.{run-answered, run-short, run-unread}
 use Rattle.pgn_run.proofs.run.run.Goals as goal
 
-pub returns-in-Ok-clause-done : goal.returns-in-Ok-clause-done
-returns-in-Ok-clause-done g c = done-runs c.args.shows (settings_with c.args.pages c.args.patience c.args.format) (g.S.Source.left c.args.source.now) c.in-Ok.input.items (g.K.Sink.held c.args.sink.now) (g.K.Sink.held c.answer.new.sink) _ _ c.answer.result c.in-Ok.ensures.bytes c.answer.ensures.answers
+pub returns-in-Ok : goal.returns-in-Ok
+returns-in-Ok g c =
+    run-answered g.S.Source.left g.S.Source.faults g.K.Sink.held g.K.Sink.faults c.args.shows (settings_of c.args.settings) c.args.source.now c.read_input.new.source c.args.sink.now c.answer.new.sink c.in-Ok.input.items c.in-Ok.input
+    c.answer.result c.read_input.result c.in-Ok.is c.read_input.ensures.rose c.in-Ok.ensures.bytes c.in-Ok.ensures.consumed c.answer.ensures.answers c.answer.ensures.rose
 
-pub returns-in-Ok-clause-done_reads_all : goal.returns-in-Ok-clause-done_reads_all
-returns-in-Ok-clause-done_reads_all g c = done-at-end c.args.shows (settings_with c.args.pages c.args.patience c.args.format) (g.S.Source.left c.args.source.now) c.in-Ok.input.items (g.K.Sink.held c.args.sink.now) (g.K.Sink.held c.answer.new.sink) _ _ c.answer.result c.in-Ok.ensures.bytes c.answer.ensures.answers (g.S.Source.left c.read_input.new.source) c.in-Ok.ensures.consumed
+pub returns-in-Err-Failed : goal.returns-in-Err-Failed
+returns-in-Err-Failed g c =
+    run-unread g.S.Source.left g.S.Source.faults g.K.Sink.held g.K.Sink.faults c.args.shows (settings_of c.args.settings) c.args.source.now c.read_input.new.source c.args.sink.now
+    (c.read_input.ensures.failed (c.in-Err-Failed.is ∙ ap Err c.in-Err-Failed.field-0-is))
 
-pub returns-in-Ok-clause-bad_scenario : goal.returns-in-Ok-clause-bad_scenario
-returns-in-Ok-clause-bad_scenario g c = bad-scenario-reads c.args.shows (settings_with c.args.pages c.args.patience c.args.format) (g.S.Source.left c.args.source.now) c.in-Ok.input.items (g.K.Sink.held c.args.sink.now) (g.K.Sink.held c.answer.new.sink) _ _ c.answer.result c.in-Ok.ensures.bytes c.answer.ensures.answers
-
-pub returns-in-Ok-clause-bad_scenario_where_due : goal.returns-in-Ok-clause-bad_scenario_where_due
-returns-in-Ok-clause-bad_scenario_where_due g c = λ fault reads rose. faulty-refused c.args.shows (settings_with c.args.pages c.args.patience c.args.format) (g.S.Source.left c.args.source.now) c.in-Ok.input.items (g.K.Sink.held c.args.sink.now) (g.K.Sink.held c.answer.new.sink) _ _ c.answer.result fault c.in-Ok.ensures.bytes c.answer.ensures.answers reads
-
-pub returns-in-Ok-clause-write_fault_writes_a_prefix : goal.returns-in-Ok-clause-write_fault_writes_a_prefix
-returns-in-Ok-clause-write_fault_writes_a_prefix g c = write-fault-runs c.args.shows (settings_with c.args.pages c.args.patience c.args.format) (g.S.Source.left c.args.source.now) c.in-Ok.input.items (g.K.Sink.held c.args.sink.now) (g.K.Sink.held c.answer.new.sink) _ _ c.answer.result c.in-Ok.ensures.bytes c.answer.ensures.answers
-
-pub returns-in-Ok-clause-complete : goal.returns-in-Ok-clause-complete
-returns-in-Ok-clause-complete g c = λ scenario reads source_rose sink_rose. reads-done c.args.shows (settings_with c.args.pages c.args.patience c.args.format) (g.S.Source.left c.args.source.now) c.in-Ok.input.items (g.K.Sink.held c.args.sink.now) (g.K.Sink.held c.answer.new.sink) _ _ c.answer.result scenario c.in-Ok.ensures.bytes c.answer.ensures.answers reads sink_rose
-
-pub returns-in-Ok-clause-no_memory_writes_first_lines : goal.returns-in-Ok-clause-no_memory_writes_first_lines
-returns-in-Ok-clause-no_memory_writes_first_lines g c = memory-shows c.args.shows (settings_with c.args.pages c.args.patience c.args.format) (g.S.Source.left c.args.source.now) c.in-Ok.input.items (g.K.Sink.held c.args.sink.now) (g.K.Sink.held c.answer.new.sink) _ _ c.answer.result c.in-Ok.ensures.bytes c.answer.ensures.answers
-
-pub returns-in-Ok-clause-no_memory_writes_nothing : goal.returns-in-Ok-clause-no_memory_writes_nothing
-returns-in-Ok-clause-no_memory_writes_nothing g c = memory-nothing c.args.shows (settings_with c.args.pages c.args.patience c.args.format) (g.S.Source.left c.args.source.now) c.in-Ok.input.items (g.K.Sink.held c.args.sink.now) (g.K.Sink.held c.answer.new.sink) _ _ c.answer.result c.in-Ok.ensures.bytes c.answer.ensures.answers
-
-pub returns-in-Ok-clause-own : goal.returns-in-Ok-clause-own
-returns-in-Ok-clause-own g c = own-run c.args.shows (settings_with c.args.pages c.args.patience c.args.format) (g.S.Source.left c.args.source.now) c.in-Ok.input.items (g.K.Sink.held c.args.sink.now) (g.K.Sink.held c.answer.new.sink) _ _ c.answer.result c.in-Ok.ensures.bytes c.answer.ensures.answers
+pub returns-in-Err-Memory : goal.returns-in-Err-Memory
+returns-in-Err-Memory g c =
+    run-short g.S.Source.left g.S.Source.faults g.K.Sink.held g.K.Sink.faults c.args.shows (settings_of c.args.settings) c.args.source.now c.read_input.new.source c.args.sink.now c.read_input.result
+    (c.in-Err-Memory.is ∙ ap Err c.in-Err-Memory.field-0-is) c.read_input.ensures.rose
