@@ -13,12 +13,14 @@ fn to_blame(alloc: Global, input: &[u8], out: &[u8]) -> Result<usize, AllocError
         return Ok(usize::MAX);
     };
     let found = read_journal(alloc, Seed::fixed(), &scenario, out);
-    // Dropped here, by a call: what follows may return.
     drop(scenario);
-    match found? {
-        Ok(_) => Ok(0),
-        Err(number) => Ok(number),
-    }
+    let number = match &found {
+        Ok(Ok(_)) => Ok(0),
+        Ok(Err(number)) => Ok(*number),
+        Err(_) => Err(AllocError),
+    };
+    drop(found);
+    number
 }
 
 // The line that is to blame in an output of a scenario, or 0 where none is.

@@ -1,5 +1,5 @@
 -- Three seats, whose callers may begin.
-use Rattle.std.proofs.Common.{◌≡◌, ℕ, zero, suc, ◌+◌, ◌<◌, List, [], ◌∷◌, ◌++◌, length, get_or, Option, refl, sym, ap, ◌∙◌, subst, arith}
+use Rattle.std.proofs.Common.{◌≡◌, ℕ, zero, suc, ◌+◌, List, [], ◌∷◌, ◌++◌, Option, refl, sym, ap, ◌∙◌, subst, arith}
 use Rattle.pgn_outlet.specs.declared.outlet.Outlet.{Outlet}
 use Rattle.pgn_outlet.specs.Passes.{Pass}
 use Rattle.pgn_turns.specs.declared.asked.Ask.{Ask}
@@ -21,6 +21,7 @@ pub three_are : (i j k l : List (Outlet (Option Ask))) (a b c : Outlet (Option A
 three_are i j k l a b c none e f g =
     g ∙ ap (λ (m : List (Outlet (Option Ask))). m ++ c ∷ []) (f ∙ ap (λ (m : List (Outlet (Option Ask))). m ++ b ∷ []) (e ∙ ap (λ (m : List (Outlet (Option Ask))). m ++ a ∷ []) none))
 
+-- callers of three inboxes that were opened one behind another may read frames
 pub may_call : (i j k l : List (Outlet (Option Ask))) (x y z : Caller) (p q r : Pass (Option Ask)) → i ≡ [] → (s : GivesSeat i j x p) → (t : GivesSeat j k y q) → (u : GivesSeat k l z r)
     → (most : ℕ) × MayCall most l (x ∷ y ∷ z ∷ [])
 may_call i j k l x y z p q r none s t u = (

@@ -8,7 +8,9 @@ use std::alloc::{AllocError, Global};
 // The letter of what a line shows.
 fn read(alloc: Global, line: &str) -> Result<char, AllocError> {
     let shown = read_line(alloc, line)?;
-    Ok(letter(&shown))
+    let letter = letter(&shown);
+    drop(shown);
+    Ok(letter)
 }
 
 // A letter for each kind of thing that a line may show, and `-` for nothing.

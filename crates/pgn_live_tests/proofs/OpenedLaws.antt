@@ -14,9 +14,11 @@ module _ {P : Type 0} (scenario : Scenario) (patience : ℕ) (sessions : List (S
   same : scenario.sections ≡ sections_of sessions
   same = sections-are (plan_for scenario) patience scenario.sections sessions scripts
 
+  -- sessions that were opened for a scenario are numbered as its sections are
   pub opened-numbered : AreNumbered 1 (sections_of sessions)
   opened-numbered = subst (λ (sections : List Section). AreNumbered 1 sections) same sound.numbered
 
+  -- there are at most 256 of them
   pub opened-few : length sessions ≤ 256
   opened-few =
       let as_many : length scenario.sections ≡ length sessions = ap (λ (sections : List Section). length sections) same ∙ length-map sessions (λ (s : Session P). s.section) in

@@ -1,10 +1,10 @@
 -- Two passes as they are opened.
-use Rattle.std.proofs.Common.{◌≡◌, ℕ, suc, ◌+◌, List, [], ◌∷◌, ◌++◌, length, map, Some, None, All, sym, refl, ap, ◌∙◌, get_or, arith, length-append}
+use Rattle.std.proofs.Common.{◌≡◌, ℕ, suc, ◌+◌, List, [], ◌∷◌, ◌++◌, length, map, Some, All, sym, refl, ap, ◌∙◌, arith, length-append}
 use Rattle.std.proofs.lemmas.List.{length-map}
 use Rattle.std.proofs.lemmas.List.Elements.{All-pop}
 use Rattle.pgn_hub.specs.declared.known.Known.{Known}
 use Rattle.pgn_hub.specs.declared.setup.SeatSetup.{SeatSetup}
-use Rattle.pgn_hub.specs.Passes.{opened_pass, opened_passes}
+use Rattle.pgn_hub.specs.Passes.{opened_passes}
 
 -- the two that are taken off the end of two
 pub two_of : {A : Type 0} (all front rest : List A) (a b : A) → length all ≡ 2 → all ≡ front ++ b ∷ [] → front ≡ rest ++ a ∷ [] → all ≡ a ∷ b ∷ []
@@ -23,26 +23,6 @@ opened-length n (seat ∷ seats) = ap suc (opened-length (n + 1) seats)
 -- a hub of so many seats has so many passes
 pub as_many : {P : Type 0} (known : P → Known) (passes : List P) (seats : List SeatSetup) (n : ℕ) → map known passes ≡ opened_passes 1 seats → length seats ≡ n → length passes ≡ n
 as_many {P} known passes seats n e is = sym (length-map passes known) ∙ ap (λ (ks : List Known). length ks) e ∙ opened-length 1 seats ∙ is
-
--- a pass is that of a session as it is opened
-pub record IsOpened (session : ℕ) (k : Known) : Type 0 where
-  pub out : k.mark ≡ None
-  pub session_is : k.session ≡ session
-
-pair : (k l : Known) (seats : List SeatSetup) → length seats ≡ 2 → k ∷ l ∷ [] ≡ opened_passes 1 seats → IsOpened 1 k × IsOpened 2 l
-pair k l [] two e = absurd (omega (arith, two))
-pair k l (s ∷ []) two e = absurd (omega (arith, two))
-pair k l (s ∷ t ∷ []) two e =
-    let first : k ≡ opened_pass 1 s = ap (λ (ks : List Known). get_or ks 0 k) e in
-    let second : l ≡ opened_pass 2 t = ap (λ (ks : List Known). get_or ks 1 l) e in (
-      record { out = ap (λ (x : Known). x.mark) first; session_is = ap (λ (x : Known). x.session) first },
-      record { out = ap (λ (x : Known). x.mark) second; session_is = ap (λ (x : Known). x.session) second },
-    )
-pair k l (s ∷ t ∷ u ∷ seats) two e = absurd (omega (arith, two))
-
--- two passes are those of the first and the second seat
-pub opened_pair : {P : Type 0} (known : P → Known) (seats : List SeatSetup) (passes : List P) (a b : P) → length seats ≡ 2 → passes ≡ a ∷ b ∷ [] → map known passes ≡ opened_passes 1 seats → IsOpened 1 (known a) × IsOpened 2 (known b)
-opened_pair {P} known seats passes a b two are e = pair (known a) (known b) seats two (ap (λ (ps : List P). map known ps) (sym are) ∙ e)
 
 -- what holds of both
 pub both_of : {P : Type 0} (Q : P → Type 0) (passes : List P) (a b : P) → passes ≡ a ∷ b ∷ [] → All Q passes → Q a × Q b

@@ -11,7 +11,7 @@ use pgn_hub::{Hub, PassView, SeatSetup, Setup};
 use pgn_language::{LineText, ScriptLines, Section};
 use pgn_outlet::{Bell, Came, Outlet, OutletPass};
 use pgn_requests::{Settings, Wording};
-use pgn_seats::{Desk, Inbox, Tells, serve_seats};
+use pgn_seats::{Desk, Inbox, Service, Tells, serve_seats};
 use pgn_session::{FlagPlan, Session};
 use pgn_turns::{Ask, Asked, Saying, quit_at_end};
 use pgn_wordhub::WordHub;
@@ -199,12 +199,20 @@ fn notify(alloc: Global, line: u32) -> Result<Ask, AllocError> {
 // The notification that it sends.
 fn note(alloc: Global) -> Result<Note, AllocError> {
     let channel = name(alloc, "a")?;
-    match Payload::new(alloc, "x") {
+    match payload(alloc, "x") {
         Ok(payload) => Ok(Note { channel, payload }),
-        Err(_) => {
+        Err(error) => {
             drop(channel);
-            Err(AllocError)
+            Err(error)
         }
+    }
+}
+
+// A payload.
+fn payload(alloc: Global, text: &str) -> Result<Payload, AllocError> {
+    match Payload::new(alloc, text) {
+        Ok(payload) => Ok(payload),
+        Err(_) => Err(AllocError),
     }
 }
 

@@ -7,7 +7,7 @@ use pgn_base::{Format, PAGES_DEFAULT, Seed, Sink};
 use pgn_hub::Hub;
 use pgn_language::Scenario;
 use pgn_memory::MemSink;
-use pgn_run::{Print, Status, run_scenario};
+use pgn_run::{Means, Print, RunSettings, Status, run_scenario};
 use pgn_scenario::read_scenario;
 use pgn_session::Session;
 use pgn_threads::{open_on_hub, run_sessions};
@@ -37,17 +37,17 @@ fn status_over<H: Hub + Sync + Drop, K: Sink, R: Threads + Wait + Clock + Sync>(
     requires sound { IsSound scenario.now }
     requires patient { 1 ≤ patience }
 {
-    run_scenario::<H, K, R>(
+    let means = Means {
         rt,
         alloc,
-        Seed::fixed(),
-        scenario,
-        PAGES_DEFAULT,
+        hashes: Seed::fixed(),
+    };
+    let settings = RunSettings {
+        pages: PAGES_DEFAULT,
         patience,
-        Format::One,
-        print,
-        sink,
-    )
+        format: Format::One,
+    };
+    run_scenario::<H, K, R>(&means, scenario, settings, print, sink)
 }
 
 // What comes of this input over a hub of this type, with so much patience.

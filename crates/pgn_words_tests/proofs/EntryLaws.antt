@@ -43,6 +43,7 @@ entry_here at number pid place low small =
     let here : ℕ → List (Option ℕ) = λ n. notes_cells One (record { db = 1; xid = number; pid = pid }) n (virtual_note ∷ []) in
     ⊎_elim (λ first. ap here first ∙ entry_first number pid low small) (λ next. ap here next ∙ entry_next number pid low small) place
 
+-- the cells with the number and the process that a writer read are its entry, at the beginning and behind another one
 pub entry_written : (at x s n p : ℕ) (cells : List (Option ℕ)) → (at ≡ 0) ⊎ (at ≡ 11) → x < 2 ^ 32 → 1000 + s < 2 ^ 32 → n ≡ x → p ≡ s → cells ≡ cells_of n (1000 + p) → notes_cells One (record { db = 1; xid = x; pid = 1000 + s }) at (virtual_note ∷ []) ≡ cells
 entry_written at x s n p cells place low small number process is =
     entry_here at x (1000 + s) place low small ∙ ap (λ k. cells_of k (1000 + s)) (sym number) ∙ ap (λ k. cells_of n (1000 + k)) (sym process) ∙ sym is
@@ -87,11 +88,13 @@ shown v at number cells format pages o entry eleven page =
       within = omega (arith, pages, page);
     }
 
+-- once the cells are stored the head may be moved behind them
 pub may_show : (v w : View) (at number to : ℕ) (cells : List (Option ℕ)) → v.setup.format ≡ One → v.setup.pages ≡ 2 → IsOpenAt v at number → notes_cells One (record { db = 1; xid = number; pid = 1000 + v.known.session }) at (virtual_note ∷ []) ≡ cells
     → length cells ≡ 11 → at + 11 ≤ 2048 → w ≡ record v { pen = record v.pen { batch = cells } } → to ≡ at + 11 → MayShow w to
 may_show v w at number to cells format pages o entry eleven page is there =
     subst (λ (x : View). MayShow x to) (sym is) (subst (λ n. MayShow (record v { pen = record v.pen { batch = cells } }) n) (sym there) (shown v at number cells format pages o entry eleven page))
 
+-- once the head is moved behind the stored cells it shows the whole transaction
 pub is_showing : (v w x : View) (at number to : ℕ) (cells : List (Option ℕ)) → v.setup.format ≡ One → v.setup.pages ≡ 2 → IsOpenAt v at number → notes_cells One (record { db = 1; xid = number; pid = 1000 + v.known.session }) at (virtual_note ∷ []) ≡ cells
     → length cells ≡ 11 → at + 11 ≤ 2048 → w ≡ record v { pen = record v.pen { batch = cells } } → to ≡ at + 11 → x ≡ head_stored to w → IsShowing x number
 is_showing v w x at number to cells format pages o entry eleven page is there head =

@@ -84,11 +84,8 @@ none_seen v e f tx two ended stored = ap (λ (y : View). y.verdicts) (stored ∙
 pub first_decided : (f g : View) → f.verdicts ≡ Unseen ∷ Unseen ∷ [] → g ≡ wake_set 0 f → g.verdicts ≡ Decided ∷ Unseen ∷ []
 first_decided f g seen woken = ap (λ (y : View). y.verdicts) woken ∙ ap (λ (l : List Verdict). set l 0 Decided) seen
 
+-- once both seats are woken it need know of neither
 pub both_decided : (f g h : View) → f.verdicts ≡ Unseen ∷ Unseen ∷ [] → g ≡ wake_set 0 f → h ≡ wake_set 1 g → AreDecided h.verdicts
 both_decided f g h seen first second =
     let is : h.verdicts ≡ Decided ∷ Decided ∷ [] = ap (λ (y : View). y.verdicts) second ∙ ap (λ (l : List Verdict). set l 1 Decided) (first_decided f g seen first) in
     subst AreDecided (sym is) (All-cons (λ (x : Verdict). x ≡ Decided) Decided (Decided ∷ []) refl (All-cons (λ (x : Verdict). x ≡ Decided) Decided [] refl (All-nil (λ (x : Verdict). x ≡ Decided))))
-
--- two seats of database 1
-pub dbs_of_two : (a b : SeatSetup) → a.db ≡ 1 → b.db ≡ 1 → map (λ (s : SeatSetup). s.db) (a ∷ b ∷ []) ≡ 1 ∷ 1 ∷ []
-dbs_of_two a b first second = ap (λ n. n ∷ b.db ∷ []) first ∙ ap (λ n. 1 ∷ n ∷ []) second

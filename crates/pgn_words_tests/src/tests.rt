@@ -42,9 +42,7 @@ fn setup_of_two(alloc: Global) -> Result<Setup, Fail>
     ensures dbs { IfOk result (λ setup. map (λ seat. seat.db) setup.seats ≡ 1 ∷ 1 ∷ []) }
     ensures format { IfOk result (λ setup. setup.format ≡ One) }
 {
-    let mut seats = Vec::with_capacity(alloc, 2)?;
-    seats.push(seat())?;
-    seats.push(seat())?;
+    let seats = Vec::from_array(alloc, [seat(), seat()])?;
     Ok(Setup::new(2, 1, seats, Format::One))
 }
 
@@ -62,11 +60,17 @@ fn open_two(alloc: Global) -> Result<(WordQueue, WordPass, WordPass), Fail>
     let setup = setup_of_two(alloc)?;
     let (queue, mut passes) = WordQueue::open(alloc, &setup)?;
     let Some(second) = passes.pop() else {
+        drop(passes);
+        drop(queue);
         return Err(Fail::from("no pass"));
     };
     let Some(first) = passes.pop() else {
+        drop(second);
+        drop(passes);
+        drop(queue);
         return Err(Fail::from("one pass"));
     };
+    drop(passes);
     Ok((queue, first, second))
 }
 
@@ -83,9 +87,12 @@ fn shown_by(pass: &WordPass) -> (u32, u32, u32, u32, bool) {
 
 #[test]
 fn a_pass_for_each_seat(rt: HostRuntime) -> Result<(), Fail> {
-    let (_queue, first, second) = open_two(rt.alloc())?;
-    assert_eq!(rt; shown_by(&first), (1, 1, 2, 3, false));
-    assert_eq!(rt; shown_by(&second), (2, 1, 2, 3, false));
+    let (queue, first, second) = open_two(rt.alloc())?;
+    let shown = (shown_by(&first), shown_by(&second));
+    drop(first);
+    drop(second);
+    drop(queue);
+    assert_eq!(rt; shown, ((1, 1, 2, 3, false), (2, 1, 2, 3, false)));
     Ok(())
 }
 
@@ -103,11 +110,29 @@ fn holder(queue: &WordQueue, pass: &mut WordPass) -> Option<SessionNo>
     }
 }
 
+// Whether the first one takes the lock, and whom the second one finds as its holder.
+fn lock_one_after_another(
+    queue: &WordQueue,
+    first: &mut WordPass,
+    second: &mut WordPass,
+) -> (bool, Option<SessionNo>)
+    requires first { IsPassOf queue.now first.old }
+    requires first_fresh { IsFresh first.old }
+    requires second { IsPassOf queue.now second.old }
+    requires second_fresh { IsFresh second.old }
+{
+    let is_locked = queue.try_lock(first).is_ok();
+    (is_locked, holder(queue, second))
+}
+
 #[test]
 fn one_holds_the_lock(rt: HostRuntime) -> Result<(), Fail> {
     let (queue, mut first, mut second) = open_two(rt.alloc())?;
-    assert!(rt; queue.try_lock(&mut first).is_ok());
-    assert_eq!(rt; holder(&queue, &mut second), Some(SessionNo::new(1)));
+    let locked = lock_one_after_another(&queue, &mut first, &mut second);
+    drop(first);
+    drop(second);
+    drop(queue);
+    assert_eq!(rt; locked, (true, Some(SessionNo::new(1))));
     Ok(())
 }
 
@@ -154,8 +179,13 @@ fn make_ready(queue: &WordQueue, pass: &mut WordPass) -> Option<(Pos, u64)>
 // A notification on the channel `c`.
 fn note(alloc: Global) -> Result<Note, Fail> {
     let channel = Name::new(alloc, "c")?;
-    let payload = Payload::new(alloc, "x")?;
-    Ok(Note { channel, payload })
+    match Payload::new(alloc, "x") {
+        Ok(payload) => Ok(Note { channel, payload }),
+        Err(_) => {
+            drop(channel);
+            Err(Fail::from("no memory"))
+        }
+    }
 }
 
 // It draws a number for one notification.
@@ -207,11 +237,22 @@ fn assert_stored(
     Ok(())
 }
 
+// The same over a queue of its own.
+fn assert_stored_in_a_queue(rt: &impl Abort, alloc: Global, notes: &[Note; 1]) -> Result<(), Fail> {
+    let (queue, mut first, mut second) = open_two(alloc)?;
+    let done = assert_stored(rt, &queue, &mut first, &mut second, notes);
+    drop(first);
+    drop(second);
+    drop(queue);
+    done
+}
+
 #[test]
 fn a_writer_reads_what_it_stored(rt: HostRuntime) -> Result<(), Fail> {
     let notes = [note(rt.alloc())?];
-    let (queue, mut first, mut second) = open_two(rt.alloc())?;
-    assert_stored(&rt, &queue, &mut first, &mut second, &notes)
+    let done = assert_stored_in_a_queue(&rt, rt.alloc(), &notes);
+    drop(notes);
+    done
 }
 
 // It joins with the announced tail as its base, and is a listener.
@@ -229,33 +270,77 @@ fn join(queue: &WordQueue, pass: &mut WordPass) -> (Xid, Pos)
     base
 }
 
+// A session joins and leaves: its base and where that is, its mark, whether it owes a read, and its mark afterwards.
+fn join_and_leave(
+    queue: &WordQueue,
+    pass: &mut WordPass,
+) -> ((Xid, Pos), Option<Xid>, bool, Option<Xid>)
+    requires own { IsPassOf queue.now pass.old }
+    requires fresh { IsFresh pass.old }
+{
+    let base = join(queue, pass);
+    let (mark, owes) = (pass.mark(), pass.owes());
+    queue.store_out(pass);
+    (base, mark, owes, pass.mark())
+}
+
 #[test]
 fn a_session_joins_and_leaves(rt: HostRuntime) -> Result<(), Fail> {
-    let (queue, _first, mut second) = open_two(rt.alloc())?;
-    let (base, place) = join(&queue, &mut second);
+    let (queue, first, mut second) = open_two(rt.alloc())?;
+    let ((base, place), mark, owes, after) = join_and_leave(&queue, &mut second);
+    drop(first);
+    drop(second);
+    drop(queue);
     assert_eq!(rt; (base.get(), place.get()), (3, 0));
-    assert_eq!(rt; second.mark(), Some(Xid::new(3)));
-    assert!(rt; second.owes());
-    queue.store_out(&mut second);
-    assert!(rt; second.mark().is_none());
+    assert_eq!(rt; (mark, owes, after), (Some(Xid::new(3)), true, None));
     Ok(())
+}
+
+// A session joins and reads: the first unfinished number, where the head is, and whether it was woken.
+fn join_and_read(queue: &WordQueue, pass: &mut WordPass) -> (Xid, Pos, bool)
+    requires own { IsPassOf queue.now pass.old }
+    requires fresh { IsFresh pass.old }
+{
+    join(queue, pass);
+    let fin = queue.begin_walk(pass);
+    let head = queue.show_head(pass);
+    (fin, head, queue.take_wake(pass))
 }
 
 #[test]
 fn a_listener_reads_up_to_the_head(rt: HostRuntime) -> Result<(), Fail> {
-    let (queue, _first, mut second) = open_two(rt.alloc())?;
-    join(&queue, &mut second);
-    assert_eq!(rt; queue.begin_walk(&mut second).get(), 3);
-    assert_eq!(rt; queue.show_head(&mut second).get(), 0);
-    assert!(rt; !queue.take_wake(&mut second));
+    let (queue, first, mut second) = open_two(rt.alloc())?;
+    let (fin, head, is_woken) = join_and_read(&queue, &mut second);
+    drop(first);
+    drop(second);
+    drop(queue);
+    assert_eq!(rt; (fin.get(), head.get(), is_woken), (3, 0, false));
     Ok(())
+}
+
+// One looks at a flag before and after another one raises it: what it finds, and the number in between.
+fn look_and_raise(
+    queue: &WordQueue,
+    first: &mut WordPass,
+    second: &mut WordPass,
+) -> (Option<Xid>, Xid, Option<Xid>)
+    requires first { IsPassOf queue.now first.old }
+    requires second { IsPassOf queue.now second.old }
+    requires flags { (shape_of queue.now).flags ≡ 1 }
+{
+    let before = queue.look_flag(second, 0);
+    let raised = queue.raise_flag(first, 0);
+    (before, raised, queue.look_flag(second, 0))
 }
 
 #[test]
 fn a_flag_tells_who_looks(rt: HostRuntime) -> Result<(), Fail> {
     let (queue, mut first, mut second) = open_two(rt.alloc())?;
-    assert!(rt; queue.look_flag(&mut second, 0).is_none());
-    assert_eq!(rt; queue.raise_flag(&mut first, 0).get(), 3);
-    assert_eq!(rt; queue.look_flag(&mut second, 0), Some(Xid::new(3)));
+    let looked = look_and_raise(&queue, &mut first, &mut second);
+    drop(first);
+    drop(second);
+    drop(queue);
+    let number = Xid::new(3);
+    assert_eq!(rt; looked, (None, number, Some(number)));
     Ok(())
 }

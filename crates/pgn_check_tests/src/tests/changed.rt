@@ -58,14 +58,13 @@ const JOURNAL: [(usize, usize, &str, usize); 5] = [
     ),
 ];
 
-// The output, changed so.
-pub(super) fn changed(
-    alloc: Global,
+// Puts the output, changed so.
+fn put_changed(
+    text: &mut Vec<u8>,
     from: usize,
     many: usize,
     instead: &str,
-) -> Result<Vec<u8>, AllocError> {
-    let mut text = Vec::new(alloc);
+) -> Result<(), AllocError> {
     for (at, line) in OUTPUT.iter().enumerate() {
         if at + 1 == from {
             text.extend_from_slice(instead.as_bytes())?;
@@ -74,27 +73,48 @@ pub(super) fn changed(
             text.extend_from_slice(line.as_bytes())?;
         }
     }
-    Ok(text)
+    Ok(())
 }
 
-#[test]
-fn outputs_of_another_form(rt: HostRuntime) -> Result<(), Fail> {
-    let alloc = rt.alloc();
-    for (from, many, instead, want) in FORM {
-        let text = changed(alloc, from, many, instead)?;
-        let found = to_blame(alloc, INPUT, &text)?;
-        assert_eq!(rt; found, want, "at {from}, {instead}");
+// The output, changed so.
+pub(super) fn changed(
+    alloc: Global,
+    from: usize,
+    many: usize,
+    instead: &str,
+) -> Result<Vec<u8>, AllocError> {
+    let mut text = Vec::new(alloc);
+    match put_changed(&mut text, from, many, instead) {
+        Ok(()) => Ok(text),
+        Err(error) => {
+            drop(text);
+            Err(error)
+        }
+    }
+}
+
+fn assert_blamed<R: Abort>(
+    rt: &R,
+    alloc: Global,
+    rows: &[(usize, usize, &str, usize)],
+) -> Result<(), AllocError> {
+    for (from, many, instead, want) in rows {
+        let text = changed(alloc, *from, *many, instead)?;
+        let found = to_blame(alloc, INPUT, &text);
+        drop(text);
+        assert_eq!(rt; found?, *want, "at {from}, {instead}");
     }
     Ok(())
 }
 
 #[test]
+fn outputs_of_another_form(rt: HostRuntime) -> Result<(), Fail> {
+    assert_blamed(&rt, rt.alloc(), &FORM)?;
+    Ok(())
+}
+
+#[test]
 fn outputs_with_another_journal(rt: HostRuntime) -> Result<(), Fail> {
-    let alloc = rt.alloc();
-    for (from, many, instead, want) in JOURNAL {
-        let text = changed(alloc, from, many, instead)?;
-        let found = to_blame(alloc, INPUT, &text)?;
-        assert_eq!(rt; found, want, "at {from}, {instead}");
-    }
+    assert_blamed(&rt, rt.alloc(), &JOURNAL)?;
     Ok(())
 }

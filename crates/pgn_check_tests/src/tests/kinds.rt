@@ -1,4 +1,5 @@
 use super::to_blame;
+use std::alloc::{AllocError, Global};
 use std::process::Abort;
 use std::test::Fail;
 
@@ -20,17 +21,29 @@ fn each_kind_of_line(rt: HostRuntime) -> Result<(), Fail> {
     Ok(())
 }
 
+// Puts one byte for another.
+fn put_byte(text: &mut [u8], old: u8, new: u8) {
+    for byte in text {
+        if *byte == old {
+            *byte = new;
+        }
+    }
+}
+
+// The line that is to blame where the output has one byte for another.
+fn to_blame_with(alloc: Global, old: u8, new: u8) -> Result<usize, AllocError> {
+    let mut text = Vec::from_slice(alloc, OUTPUT)?;
+    put_byte(text.as_mut_slice(), old, new);
+    let found = to_blame(alloc, INPUT, &text);
+    drop(text);
+    found
+}
+
 #[test]
 fn bytes_that_no_line_has(rt: HostRuntime) -> Result<(), Fail> {
     let alloc = rt.alloc();
     for (old, new, want) in BYTES {
-        let mut text = Vec::from_slice(alloc, OUTPUT)?;
-        for byte in text.as_mut_slice() {
-            if *byte == old {
-                *byte = new;
-            }
-        }
-        let found = to_blame(alloc, INPUT, &text)?;
+        let found = to_blame_with(alloc, old, new)?;
         assert_eq!(rt; found, want);
     }
     Ok(())

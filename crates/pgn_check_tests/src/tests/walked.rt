@@ -1,5 +1,6 @@
 use super::changed::{INPUT, changed};
 use super::verdict;
+use std::alloc::{AllocError, Global};
 use std::process::Abort;
 use std::test::Fail;
 
@@ -25,14 +26,23 @@ const ROWS: [(usize, usize, &str, usize); 17] = [
     (13, 1, "end\n", 13),
 ];
 
+fn assert_rows<R: Abort>(
+    rt: &R,
+    alloc: Global,
+    rows: &[(usize, usize, &str, usize)],
+) -> Result<(), AllocError> {
+    for (from, many, instead, want) in rows {
+        let text = changed(alloc, *from, *many, instead)?;
+        let found = verdict(alloc, INPUT, &text);
+        drop(text);
+        assert_eq!(rt; found?, *want, "at {from}, {instead}");
+    }
+    Ok(())
+}
+
 #[test]
 fn lines_of_a_session(rt: HostRuntime) -> Result<(), Fail> {
-    let alloc = rt.alloc();
-    for (from, many, instead, want) in ROWS {
-        let text = changed(alloc, from, many, instead)?;
-        let found = verdict(alloc, INPUT, &text)?;
-        assert_eq!(rt; found, want, "at {from}, {instead}");
-    }
+    assert_rows(&rt, rt.alloc(), &ROWS)?;
     Ok(())
 }
 
@@ -105,12 +115,20 @@ const WHOLE: [(&str, &str, usize); 13] = [
     ),
 ];
 
+fn assert_whole<R: Abort>(
+    rt: &R,
+    alloc: Global,
+    outputs: &[(&str, &str, usize)],
+) -> Result<(), AllocError> {
+    for (input, output, want) in outputs {
+        let found = verdict(alloc, input.as_bytes(), output.as_bytes())?;
+        assert_eq!(rt; found, *want, "{output}");
+    }
+    Ok(())
+}
+
 #[test]
 fn whole_outputs(rt: HostRuntime) -> Result<(), Fail> {
-    let alloc = rt.alloc();
-    for (input, output, want) in WHOLE {
-        let found = verdict(alloc, input.as_bytes(), output.as_bytes())?;
-        assert_eq!(rt; found, want, "{output}");
-    }
+    assert_whole(&rt, rt.alloc(), &WHOLE)?;
     Ok(())
 }

@@ -48,13 +48,23 @@ fn push_note(alloc: Global, notes: &mut Vec<Note>, payload_len: usize) -> Result
     Ok(())
 }
 
+fn push_notes(alloc: Global, notes: &mut Vec<Note>, payload_lens: &[usize]) -> Result<(), Fail> {
+    for len in payload_lens {
+        push_note(alloc, notes, *len)?;
+    }
+    Ok(())
+}
+
 // Notifications on a channel of one letter, whose payloads have these lengths.
 fn notes(alloc: Global, payload_lens: &[usize]) -> Result<Vec<Note>, Fail> {
     let mut notes = Vec::new(alloc);
-    for len in payload_lens {
-        push_note(alloc, &mut notes, *len)?;
+    match push_notes(alloc, &mut notes, payload_lens) {
+        Ok(()) => Ok(notes),
+        Err(fail) => {
+            drop(notes);
+            Err(fail)
+        }
     }
-    Ok(notes)
 }
 
 #[test]
@@ -152,7 +162,9 @@ fn are_planned(
     next: Place,
 ) -> Result<bool, Fail> {
     let notes = notes(alloc, lens)?;
-    Ok(is_planned(from, &notes, fits, filler, next))
+    let planned = is_planned(from, &notes, fits, filler, next);
+    drop(notes);
+    Ok(planned)
 }
 
 #[test]
@@ -174,20 +186,25 @@ const LONGEST: [(Place, usize, u32, Place); 6] = [
     ((0, 116), 0, 8076, (1, 0)),
 ];
 
+fn assert_planned(rt: &impl Abort, notes: &[Note]) {
+    for (from, fits, filler, next) in LONGEST {
+        assert!(rt; is_planned(from, notes, fits, filler, next), "{from:?}");
+    }
+}
+
 #[test]
 fn longest_note(rt: HostRuntime) -> Result<(), Fail> {
     let notes = [note(rt.alloc(), 63, 7999)?];
-    for (from, fits, filler, next) in LONGEST {
-        assert!(rt; is_planned(from, &notes, fits, filler, next), "{from:?}");
-    }
+    assert_planned(&rt, &notes);
+    drop(notes);
     Ok(())
 }
 
 #[test]
 fn full_page_of_short_notes(rt: HostRuntime) -> Result<(), Fail> {
-    let notes = notes(rt.alloc(), &[5; 342])?;
     // 341 entries of 24 bytes leave 8, which are skipped.
-    assert!(rt; is_planned((3, 0), &notes, 341, 0, (4, 0)));
+    let planned = are_planned(rt.alloc(), (3, 0), &[5; 342], 341, 0, (4, 0))?;
+    assert!(rt; planned);
     Ok(())
 }
 

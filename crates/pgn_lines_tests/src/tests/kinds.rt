@@ -1,4 +1,5 @@
 use super::read;
+use std::alloc::{AllocError, Global};
 use std::process::Abort;
 use std::test::Fail;
 
@@ -68,32 +69,28 @@ const ANSWERS: [(&str, char); 17] = [
     ("> LISTEN c", '-'),
 ];
 
+fn assert_lines<R: Abort>(rt: &R, alloc: Global, lines: &[(&str, char)]) -> Result<(), AllocError> {
+    for (line, want) in lines {
+        let found = read(alloc, line)?;
+        assert_eq!(rt; found, *want, "at {line}");
+    }
+    Ok(())
+}
+
 #[test]
 fn lines_of_the_journal(rt: HostRuntime) -> Result<(), Fail> {
-    let alloc = rt.alloc();
-    for (line, want) in JOURNAL {
-        let found = read(alloc, line)?;
-        assert_eq!(rt; found, want, "at {line}");
-    }
+    assert_lines(&rt, rt.alloc(), &JOURNAL)?;
     Ok(())
 }
 
 #[test]
 fn lines_of_what_happened(rt: HostRuntime) -> Result<(), Fail> {
-    let alloc = rt.alloc();
-    for (line, want) in EVENTS {
-        let found = read(alloc, line)?;
-        assert_eq!(rt; found, want, "at {line}");
-    }
+    assert_lines(&rt, rt.alloc(), &EVENTS)?;
     Ok(())
 }
 
 #[test]
 fn lines_of_answers(rt: HostRuntime) -> Result<(), Fail> {
-    let alloc = rt.alloc();
-    for (line, want) in ANSWERS {
-        let found = read(alloc, line)?;
-        assert_eq!(rt; found, want, "at {line}");
-    }
+    assert_lines(&rt, rt.alloc(), &ANSWERS)?;
     Ok(())
 }

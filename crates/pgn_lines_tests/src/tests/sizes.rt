@@ -16,28 +16,54 @@ const LONG: [(&str, &str, usize, &str, char); 9] = [
     ("+publish ", "1", 70, "", '-'),
 ];
 
-// A line of three parts.
-fn line(
+// Puts a line of three parts.
+fn put_line(
+    alloc: Global,
+    text: &mut String,
+    start: &str,
+    piece: &str,
+    times: usize,
+    end: &str,
+) -> Result<(), AllocError> {
+    text.push_str(start)?;
+    let pieces = piece.repeat(alloc, times)?;
+    let put = text.push_str(&pieces);
+    drop(pieces);
+    put?;
+    text.push_str(end)
+}
+
+// The letter of what a line of three parts shows.
+fn read_parts(
     alloc: Global,
     start: &str,
     piece: &str,
     times: usize,
     end: &str,
-) -> Result<String, AllocError> {
+) -> Result<char, AllocError> {
     let mut text = String::new(alloc);
-    text.push_str(start)?;
-    text.push_str(&piece.repeat(alloc, times)?)?;
-    text.push_str(end)?;
-    Ok(text)
+    let found = match put_line(alloc, &mut text, start, piece, times, end) {
+        Ok(()) => read(alloc, &text),
+        Err(error) => Err(error),
+    };
+    drop(text);
+    found
+}
+
+fn assert_lines<R: Abort>(
+    rt: &R,
+    alloc: Global,
+    lines: &[(&str, &str, usize, &str, char)],
+) -> Result<(), AllocError> {
+    for (start, piece, times, end, want) in lines {
+        let found = read_parts(alloc, start, piece, *times, end)?;
+        assert_eq!(rt; found, *want, "at {start}");
+    }
+    Ok(())
 }
 
 #[test]
 fn lines_of_each_size(rt: HostRuntime) -> Result<(), Fail> {
-    let alloc = rt.alloc();
-    for (start, piece, times, end, want) in LONG {
-        let text = line(alloc, start, piece, times, end)?;
-        let found = read(alloc, &text)?;
-        assert_eq!(rt; found, want, "at {start}");
-    }
+    assert_lines(&rt, rt.alloc(), &LONG)?;
     Ok(())
 }

@@ -1,7 +1,5 @@
-ghost use Rattle.std.specs.Prelude.{◌≡◌, map, length, All, IfOk, OnErr, ◌<◌, ◌≤◌, ◌⊎◌};
-ghost use Rattle.std.specs.Io.KnownBytes.{WriteAppends};
+ghost use Rattle.std.specs.Prelude.{◌≡◌, map, length, All};
 ghost use Rattle.std.specs.List.{range_with_len};
-ghost use Rattle.pgn_base.specs.Outside.{Rose};
 ghost use Rattle.pgn_language.specs.Inputs.{IsSound};
 
 use super::{SELF_NOTIFY, SELF_NOTIFY_LINES, live, open, scenario_of, sink_of, text_of};

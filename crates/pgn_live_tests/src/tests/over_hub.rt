@@ -6,7 +6,7 @@ use pgn_base::{Failed, Format, PAGES_DEFAULT, PATIENCE_DEFAULT, Seed, Sink};
 use pgn_hub::Hub;
 use pgn_language::Scenario;
 use pgn_memory::MemSink;
-use pgn_run::{Status, run_scenario_live};
+use pgn_run::{Means, RunSettings, Status, run_scenario_live};
 use std::alloc::Global;
 use std::sync::Wait;
 use std::test::Fail;
@@ -22,16 +22,17 @@ fn status_over<H: Hub + Sync + Drop, K: Sink + Send, R: Threads + Wait + Clock +
 ) -> Status
     requires { IsSound scenario.now }
 {
-    run_scenario_live::<H, K, R>(
+    let means = Means {
         rt,
         alloc,
-        Seed::fixed(),
-        scenario,
-        PAGES_DEFAULT,
-        PATIENCE_DEFAULT,
-        Format::One,
-        sink,
-    )
+        hashes: Seed::fixed(),
+    };
+    let settings = RunSettings {
+        pages: PAGES_DEFAULT,
+        patience: PATIENCE_DEFAULT,
+        format: Format::One,
+    };
+    run_scenario_live::<H, K, R>(&means, scenario, settings, sink)
 }
 
 // How a live run of this input ends over a gate, and what is written then.

@@ -1,7 +1,5 @@
 //! A hub of two pages for two sessions, and what a session does with its calls.
-ghost use Rattle.std.specs.Prelude.{◌≡◌, ◌≤◌, ◌<◌, [], ◌∷◌, length, None, IsSome, IfOk, IfSome};
-ghost use Rattle.pgn_words.specs.Passes.{known_of};
-ghost use Rattle.pgn_wordhub.specs.Passes.{IsHubPass};
+ghost use Rattle.std.specs.Prelude.{◌≡◌, ◌≤◌, ◌<◌, [], ◌∷◌, length, IfOk, IfSome};
 
 use pgn_base::{
     Action, Actions, DbOid, Delivery, Enlisted, Format, ListenSet, Name, Note, Payload, Seed,
@@ -21,6 +19,7 @@ mod calls;
 mod formats;
 mod full;
 mod interest;
+mod script;
 mod sharing;
 mod tail;
 
@@ -149,10 +148,6 @@ fn open_pages<P: PassView + Send + Drop, H: Hub<Pass = P> + Drop>(
     requires db { 0 < second_db }
     ensures first { IfOk result (λ opened. H.is_pass opened.0 opened.1) }
     ensures second { IfOk result (λ opened. H.is_pass opened.0 opened.2) }
-    ensures first_out { IfOk result (λ opened. (P.known opened.1).mark ≡ None) }
-    ensures second_out { IfOk result (λ opened. (P.known opened.2).mark ≡ None) }
-    ensures first_session { IfOk result (λ opened. (P.known opened.1).session ≡ 1) }
-    ensures second_session { IfOk result (λ opened. (P.known opened.2).session ≡ 2) }
     ensures seats { IfOk result (λ opened. length (H.shape opened.0).seats ≡ 2) }
     ensures flags { IfOk result (λ opened. (H.shape opened.0).flags ≡ 2) }
 {
@@ -169,10 +164,6 @@ fn open_two<P: PassView + Send + Drop, H: Hub<Pass = P> + Drop>(
 ) -> Result<(H, P, P), Fail>
     ensures first { IfOk result (λ opened. H.is_pass opened.0 opened.1) }
     ensures second { IfOk result (λ opened. H.is_pass opened.0 opened.2) }
-    ensures first_out { IfOk result (λ opened. (P.known opened.1).mark ≡ None) }
-    ensures second_out { IfOk result (λ opened. (P.known opened.2).mark ≡ None) }
-    ensures first_session { IfOk result (λ opened. (P.known opened.1).session ≡ 1) }
-    ensures second_session { IfOk result (λ opened. (P.known opened.2).session ≡ 2) }
     ensures seats { IfOk result (λ opened. length (H.shape opened.0).seats ≡ 2) }
     ensures flags { IfOk result (λ opened. (H.shape opened.0).flags ≡ 2) }
 {
@@ -180,57 +171,32 @@ fn open_two<P: PassView + Send + Drop, H: Hub<Pass = P> + Drop>(
 }
 
 // The number of the transaction that publishes one notification: none where the queue is full, or the session has sent all it may.
-fn publish_one<P: PassView + Send + Drop, H: Hub<Pass = P>, R: Wait>(
-    rt: &R,
-    hub: &H,
-    pass: &mut P,
-    notes: &[Note; 1],
-) -> Option<Xid>
-    requires own { H.is_pass hub.now pass.old }
-    ensures own { H.is_pass hub.now pass.new }
-    ensures mark { (P.known pass.new).mark ≡ (P.known pass.old).mark }
-    ensures session { (P.known pass.new).session ≡ (P.known pass.old).session }
-{
-    if pass.notes_left() < 1 {
-        return None;
-    }
-    match hub.publish(rt, pass, notes) {
-        Ok(xid) => Some(xid),
-        Err(_) => None,
-    }
-}
-
-// The same, as a plain number.
 fn publish<P: PassView + Send + Drop, H: Hub<Pass = P>, R: Wait>(
     rt: &R,
     hub: &H,
     pass: &mut P,
     notes: &[Note; 1],
-) -> Option<u32>
-    requires own { H.is_pass hub.now pass.old }
-    ensures own { H.is_pass hub.now pass.new }
-    ensures mark { (P.known pass.new).mark ≡ (P.known pass.old).mark }
-    ensures session { (P.known pass.new).session ≡ (P.known pass.old).session }
+) -> Option<Xid>
+    requires { H.is_pass hub.now pass.old }
+    ensures { H.is_pass hub.now pass.new }
 {
-    match publish_one(rt, hub, pass, notes) {
-        Some(xid) => Some(xid.get()),
-        None => None,
+    if pass.notes_left() < 1 {
+        return None;
     }
+    hub.publish(rt, pass, notes).ok()
 }
 
 // The same of a notification on a channel whose payload has so many letters, if memory suffices for it.
-fn send_on<P: PassView + Send + Drop, H: Hub<Pass = P>, R: Wait>(
+fn send<P: PassView + Send + Drop, H: Hub<Pass = P>, R: Wait>(
     rt: &R,
     alloc: Global,
     hub: &H,
     pass: &mut P,
     channel: &str,
     letters: usize,
-) -> Option<u32>
-    requires own { H.is_pass hub.now pass.old }
-    ensures own { H.is_pass hub.now pass.new }
-    ensures mark { (P.known pass.new).mark ≡ (P.known pass.old).mark }
-    ensures session { (P.known pass.new).session ≡ (P.known pass.old).session }
+) -> Option<Xid>
+    requires { H.is_pass hub.now pass.old }
+    ensures { H.is_pass hub.now pass.new }
 {
     match note_on(alloc, channel, letters) {
         Some(note) => publish(rt, hub, pass, &[note]),
@@ -238,72 +204,50 @@ fn send_on<P: PassView + Send + Drop, H: Hub<Pass = P>, R: Wait>(
     }
 }
 
+// A session that does not listen yet listens from here on.
+fn enlist<P: PassView + Send + Drop, H: Hub<Pass = P>>(hub: &H, pass: &mut P) -> Option<Enlisted>
+    requires { H.is_pass hub.now pass.old }
+    ensures { H.is_pass hub.now pass.new }
+{
+    if pass.mark().is_some() {
+        return None;
+    }
+    Some(hub.enlist(pass))
+}
+
+// Tells that a listener listens on these channels, and reads on: the new mark, if memory suffices, and what was received is put behind
+// `got`.
+fn read_on<P: PassView + Send + Drop, H: Hub<Pass = P>>(
+    alloc: Global,
+    hub: &H,
+    pass: &mut P,
+    set: &ListenSet,
+    got: &mut Vec<Delivery>,
+) -> Option<Xid>
+    requires { H.is_pass hub.now pass.old }
+    ensures { H.is_pass hub.now pass.new }
+{
+    if pass.mark().is_none() {
+        return None;
+    }
+    hub.interest(pass, set);
+    hub.scan(alloc, pass, set, got).ok()
+}
+
 // The same on the channel `c`.
-fn send<P: PassView + Send + Drop, H: Hub<Pass = P>, R: Wait>(
-    rt: &R,
-    alloc: Global,
-    hub: &H,
-    pass: &mut P,
-    letters: usize,
-) -> Option<u32>
-    requires own { H.is_pass hub.now pass.old }
-    ensures own { H.is_pass hub.now pass.new }
-    ensures mark { (P.known pass.new).mark ≡ (P.known pass.old).mark }
-    ensures session { (P.known pass.new).session ≡ (P.known pass.old).session }
-{
-    send_on(rt, alloc, hub, pass, "c", letters)
-}
-
-// Sends a largest notification twice. Two fill two pages.
-fn send_two<P: PassView + Send + Drop, H: Hub<Pass = P>, R: Wait>(
-    rt: &R,
-    alloc: Global,
-    hub: &H,
-    pass: &mut P,
-)
-    requires own { H.is_pass hub.now pass.old }
-    ensures own { H.is_pass hub.now pass.new }
-    ensures mark { (P.known pass.new).mark ≡ (P.known pass.old).mark }
-{
-    send(rt, alloc, hub, pass, LARGEST);
-    send(rt, alloc, hub, pass, LARGEST);
-}
-
-// Sends it four times.
-fn send_four<P: PassView + Send + Drop, H: Hub<Pass = P>, R: Wait>(
-    rt: &R,
-    alloc: Global,
-    hub: &H,
-    pass: &mut P,
-)
-    requires own { H.is_pass hub.now pass.old }
-    ensures own { H.is_pass hub.now pass.new }
-    ensures mark { (P.known pass.new).mark ≡ (P.known pass.old).mark }
-{
-    send_two(rt, alloc, hub, pass);
-    send_two(rt, alloc, hub, pass);
-}
-
-// Tells that the session listens on the channel `c`, and reads on: the new mark, if memory suffices, and what was received is put
-// behind `got`.
 fn read<P: PassView + Send + Drop, H: Hub<Pass = P>>(
     alloc: Global,
     hub: &H,
     pass: &mut P,
     got: &mut Vec<Delivery>,
-) -> Option<u32>
-    requires own { H.is_pass hub.now pass.old }
-    requires listens { IsSome (P.known pass.old).mark }
-    ensures own { H.is_pass hub.now pass.new }
-    ensures listens { IsSome (P.known pass.new).mark }
-    ensures session { (P.known pass.new).session ≡ (P.known pass.old).session }
+) -> Option<Xid>
+    requires { H.is_pass hub.now pass.old }
+    ensures { H.is_pass hub.now pass.new }
 {
     let set = set_of_c(alloc)?;
-    hub.interest(pass, &set);
-    match hub.scan(alloc, pass, &set, got) {
-        Ok(to) => Some(to.get()),
-        Err(_) => None,
-    }
+    let to = read_on(alloc, hub, pass, &set, got);
+    drop(set);
+    to
 }
 
 // Reads on: the new mark, and how many notifications were received.
@@ -312,82 +256,25 @@ fn receive<P: PassView + Send + Drop, H: Hub<Pass = P>>(
     hub: &H,
     pass: &mut P,
 ) -> Option<(u32, usize)>
-    requires own { H.is_pass hub.now pass.old }
-    requires listens { IsSome (P.known pass.old).mark }
-    ensures own { H.is_pass hub.now pass.new }
-    ensures listens { IsSome (P.known pass.new).mark }
-    ensures session { (P.known pass.new).session ≡ (P.known pass.old).session }
+    requires { H.is_pass hub.now pass.old }
+    ensures { H.is_pass hub.now pass.new }
 {
     let mut got = Vec::new(alloc);
-    match read(alloc, hub, pass, &mut got) {
-        Some(to) => Some((to, got.len())),
-        None => None,
+    let to = read(alloc, hub, pass, &mut got);
+    let count = got.len();
+    drop(got);
+    Some((to?.get(), count))
+}
+
+// Whether a listener is to read, if it is one.
+fn woken<P: PassView + Send + Drop, H: Hub<Pass = P>>(hub: &H, pass: &mut P) -> Option<bool>
+    requires { H.is_pass hub.now pass.old }
+    ensures { H.is_pass hub.now pass.new }
+{
+    if pass.mark().is_none() {
+        return None;
     }
-}
-
-// A session listens from here on.
-fn enlist<P: PassView + Send + Drop, H: Hub<Pass = P>>(hub: &H, pass: &mut P) -> Enlisted
-    requires own { H.is_pass hub.now pass.old }
-    requires out { (P.known pass.old).mark ≡ None }
-    ensures own { H.is_pass hub.now pass.new }
-    ensures listens { IsSome (P.known pass.new).mark }
-    ensures session { (P.known pass.new).session ≡ (P.known pass.old).session }
-{
-    hub.enlist(pass)
-}
-
-// Whether a listener is to read.
-fn woken<P: PassView + Send + Drop, H: Hub<Pass = P>>(hub: &H, pass: &mut P) -> bool
-    requires own { H.is_pass hub.now pass.old }
-    requires listens { IsSome (P.known pass.old).mark }
-    ensures own { H.is_pass hub.now pass.new }
-    ensures listens { IsSome (P.known pass.new).mark }
-    ensures session { (P.known pass.new).session ≡ (P.known pass.old).session }
-{
-    hub.woken(pass)
-}
-
-// A session listens on the channel `c` from here on, and owes no read.
-fn listen<P: PassView + Send + Drop, H: Hub<Pass = P>>(
-    alloc: Global,
-    hub: &H,
-    pass: &mut P,
-) -> Option<Enlisted>
-    requires own { H.is_pass hub.now pass.old }
-    requires out { (P.known pass.old).mark ≡ None }
-    ensures own { H.is_pass hub.now pass.new }
-    ensures listens { IsSome (P.known pass.new).mark }
-    ensures session { (P.known pass.new).session ≡ (P.known pass.old).session }
-{
-    let enlisted = enlist(hub, pass);
-    match receive(alloc, hub, pass) {
-        Some(_) => Some(enlisted),
-        None => None,
-    }
-}
-
-// What an advance did: the oldest kept page before it and after it, and the session that joined.
-fn advance<R: Wait>(rt: &R, hub: &WordHub, pass: &mut WordPass) -> (u64, u64, Option<SessionNo>)
-    requires own { IsHubPass hub.now pass.old }
-    ensures own { IsHubPass hub.now pass.new }
-    ensures mark { (known_of pass.new).mark ≡ (known_of pass.old).mark }
-    ensures session { (known_of pass.new).session ≡ (known_of pass.old).session }
-{
-    let freed = hub.advance_tail(rt, pass);
-    (freed.from, freed.to, freed.joiner)
-}
-
-// One pass hears of what another one knows: what it is told then.
-fn tell<P: PassView + Send + Drop, H: Hub<Pass = P>>(hub: &H, from: &mut P, into: &mut P) -> u32
-    requires from { H.is_pass hub.now from.old }
-    requires into { H.is_pass hub.now into.old }
-    ensures from { H.is_pass hub.now from.new }
-    ensures from_session { (P.known from.new).session ≡ (P.known from.old).session }
-    ensures into { H.is_pass hub.now into.new }
-    ensures into_session { (P.known into.new).session ≡ (P.known into.old).session }
-{
-    hub.meet(from, into);
-    into.told().get()
+    Some(hub.woken(pass))
 }
 
 // Two passes, in order.
@@ -406,8 +293,29 @@ fn pair<P: Drop>(alloc: Global, first: P, second: P) -> Result<Vec<P>, AllocErro
     Ok(passes)
 }
 
-// Ends the hub: how many transactions its journal has.
+// Ends the hub of two sessions, in order: how many transactions its journal has.
 fn count_journal<P: PassView + Send + Drop, H: Hub<Pass = P> + Drop>(
+    alloc: Global,
+    hub: H,
+    first: P,
+    second: P,
+) -> Result<u32, Fail>
+    requires first { H.is_pass hub first }
+    requires second { H.is_pass hub second }
+    requires seats { length (H.shape hub).seats ≡ 2 }
+{
+    if first.session().get() == 1 && second.session().get() == 2 {
+        gather(alloc, hub, first, second)
+    } else {
+        drop(first);
+        drop(second);
+        drop(hub);
+        Err(Fail::from("not in order"))
+    }
+}
+
+// The same of those that are known to be in order.
+fn gather<P: PassView + Send + Drop, H: Hub<Pass = P> + Drop>(
     alloc: Global,
     hub: H,
     first: P,

@@ -83,7 +83,9 @@ pub(super) fn listen_and_notify<H: Hub, R: Wait>(
 #[test]
 fn who_asks_nothing_hears(rt: HostRuntime) -> Result<(), Fail> {
     let told = played(&rt, rt.alloc(), Play::Hearing)?;
-    assert_eq!(rt; told.first.len(), 18 + 13 * ROUNDS as usize);
-    assert_eq!(rt; told.second.len(), 18 * ROUNDS as usize);
+    let (first, second) = (told.first.len(), told.second.len());
+    drop(told);
+    assert_eq!(rt; first, 18 + 13 * ROUNDS as usize);
+    assert_eq!(rt; second, 18 * ROUNDS as usize);
     Ok(())
 }

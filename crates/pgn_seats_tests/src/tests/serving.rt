@@ -54,16 +54,15 @@ fn serve_and_ask<P: PassView + Send + Drop, H: Hub<Pass = P> + Sync, R: Threads 
         &mut || -> Result<(), AllocError>
             requires { IsSync R.row × IsSync H.row × IsSend P.row × IsPassOf board.now.outbox.now tells.now.pass × MayServe (H.is_pass board.now.hub.now) (H.shape board.now.hub.now) P.known board.now.inboxes.now desks.now (knows tells.now.pass) }
         {
-            serve_seats(
+            let service = Service {
                 rt,
                 alloc,
-                board.hub,
-                board.inboxes,
-                board.outbox,
-                board.bell,
-                desks,
-                tells,
-            )
+                hub: board.hub,
+                inboxes: board.inboxes,
+                outbox: board.outbox,
+                bell: board.bell,
+            };
+            serve_seats(&service, desks, tells)
         },
         &mut || -> Result<(), AllocError>
             requires { IsSync R.row × IsSync H.row × (length board.now.inboxes.now ≡ 2) × (length (H.shape board.now.hub.now).seats ≡ 2) × MayAsk board.now.inboxes.now 1 asker.now.first × MayAsk board.now.inboxes.now 2 asker.now.second × MayHear board.now.outbox.now asker.now.takes }

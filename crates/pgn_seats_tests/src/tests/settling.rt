@@ -5,6 +5,7 @@ use super::serving::played;
 use super::*;
 use pgn_requests::{Setting, Settled, ShortText};
 use pgn_turns::Parting;
+use std::process::Abort;
 
 // What a client is told where it listens, where it names itself, and where it discards all, so that it has no name any more.
 const LISTENS: &[u8] = b"C\0\0\0\x0bLISTEN\0Z\0\0\0\x05I";
@@ -21,9 +22,14 @@ const NO_NAME: &[u8] = b"D\0\0\0\x0a\0\x01\0\0\0\0C\0\0\0\x09SHOW\0Z\0\0\0\x05I"
 
 const NOTIFIES: &[u8] = b"C\0\0\0\x0bNOTIFY\0Z\0\0\0\x05I";
 
+// Its name.
+fn psql(alloc: Global) -> Result<ShortText, AllocError> {
+    ShortText::new(alloc, "psql")
+}
+
 // A client that names itself.
 fn names(alloc: Global) -> Result<Ask, AllocError> {
-    let value = ShortText::new(alloc, "psql")?;
+    let value = psql(alloc)?;
     Ok(Ask::Settle(Settled::Sets {
         setting: Setting::ApplicationName,
         value,
@@ -104,25 +110,51 @@ pub(super) fn set_and_discard<H: Hub, R: Wait>(
     ask_no_more(rt, board, asker)
 }
 
-// These bytes, one after another.
-fn joined(alloc: Global, parts: &[&[u8]]) -> Result<Vec<u8>, AllocError> {
-    let mut bytes = Vec::new(alloc);
+fn push_parts(bytes: &mut Vec<u8>, parts: &[&[u8]]) -> Result<(), AllocError> {
     for part in parts {
         bytes.extend_from_slice(part)?;
     }
-    Ok(bytes)
+    Ok(())
+}
+
+// These bytes, one after another.
+fn joined(alloc: Global, parts: &[&[u8]]) -> Result<Vec<u8>, AllocError> {
+    let mut bytes = Vec::new(alloc);
+    match push_parts(&mut bytes, parts) {
+        Ok(()) => Ok(bytes),
+        Err(error) => {
+            drop(bytes);
+            Err(error)
+        }
+    }
+}
+
+fn assert_bytes<R: Abort>(rt: &R, found: &[u8], want: &[u8]) {
+    assert_eq!(rt; found, want);
+}
+
+// Asserts that both seats are told this in the play.
+fn assert_told<R: Threads + Wait + Sync + Abort>(
+    rt: &R,
+    alloc: Global,
+    first: &[u8],
+    second: &[u8],
+) -> Result<(), AllocError> {
+    let told = played(rt, alloc, Play::Settling)?;
+    assert_bytes(rt, told.first.as_slice(), first);
+    assert_bytes(rt, told.second.as_slice(), second);
+    drop(told);
+    Ok(())
 }
 
 // Who discards all hears nothing more of what it listened to, and has its settings of the start; and so has whoever comes next.
 #[test]
 fn what_one_client_sets_the_next_has_not(rt: HostRuntime) -> Result<(), Fail> {
     let alloc = rt.alloc();
-    let first = joined(
-        alloc,
-        &[LISTENS, NAMED, DISCARDED, LISTENS, NAMED, COLUMN, NO_NAME],
-    )?;
-    let told = played(&rt, alloc, Play::Settling)?;
-    assert_eq!(rt; told.first.as_slice(), first.as_slice());
-    assert_eq!(rt; told.second.as_slice(), NOTIFIES);
+    let parts = [LISTENS, NAMED, DISCARDED, LISTENS, NAMED, COLUMN, NO_NAME];
+    let first = joined(alloc, &parts)?;
+    let told = assert_told(&rt, alloc, first.as_slice(), NOTIFIES);
+    drop(first);
+    told?;
     Ok(())
 }

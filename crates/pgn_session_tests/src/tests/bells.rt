@@ -1,30 +1,8 @@
-use super::probe::{Probe, Rung};
-use super::ran;
-use super::turns::awaits_of;
-use std::alloc::Global;
-use std::process::Abort;
-use std::sync::Wait;
+use super::probe::{Rung, awaited_over};
 use std::test::Fail;
-use std::thread::Threads;
-use std::time::Clock;
 
 // So much patience is an hour.
 const HOUR: u64 = 3_600_000_000;
-
-type Bells = Probe<Rung<10_000_000>>;
-
-// What the awaits of this input come to, where each session whom no bell wakes dozes for ever.
-fn rung<R: Threads + Wait + Clock + Sync + Abort>(
-    rt: &R,
-    alloc: Global,
-    input: &str,
-) -> Result<String, Fail> {
-    let (hub, sessions, ended) = ran::<Bells, R>(rt, alloc, input, HOUR)?;
-    assert!(rt; ended);
-    assert!(rt; !hub.is_spent());
-    drop(hub);
-    Ok(awaits_of(alloc, &sessions)?)
-}
 
 const AWAITS: &str = "\
 \\session a 1
@@ -35,12 +13,17 @@ NOTIFY c
 \\signal f
 ";
 
-// Session b sends once session a dozes, and raises the flag once a has read.
+// Each session whom no bell wakes dozes for ever. Session b sends once session a dozes, and raises the flag once a has read.
 #[test]
 fn a_listener_that_awaits_is_rung(rt: HostRuntime) -> Result<(), Fail> {
-    let alloc = rt.alloc();
-    let awaits = rung(&rt, alloc, AWAITS)?;
-    assert_eq!(rt; awaits.as_str(), "+await 4\n");
+    let (seen, awaits) = awaited_over::<Rung<10_000_000>, HostRuntime>(
+        &rt,
+        rt.alloc(),
+        AWAITS,
+        HOUR,
+    )?;
+    assert_eq!(rt; (seen.ended, seen.is_spent), (true, false));
+    assert!(rt; awaits.as_slice() == [4].as_slice());
     Ok(())
 }
 
@@ -55,8 +38,13 @@ NOTIFY c
 // Likewise where session a has come to its end.
 #[test]
 fn a_listener_at_its_end_is_rung(rt: HostRuntime) -> Result<(), Fail> {
-    let alloc = rt.alloc();
-    let awaits = rung(&rt, alloc, WAITS_FOR_THE_OTHER)?;
-    assert_eq!(rt; awaits.as_str(), "");
+    let (seen, awaits) = awaited_over::<Rung<10_000_000>, HostRuntime>(
+        &rt,
+        rt.alloc(),
+        WAITS_FOR_THE_OTHER,
+        HOUR,
+    )?;
+    assert_eq!(rt; (seen.ended, seen.is_spent), (true, false));
+    assert!(rt; awaits.is_empty());
     Ok(())
 }

@@ -1,14 +1,15 @@
-use super::probe::{Gate, Probe, Watch, seen_over};
-use super::turns::awaits_of;
-use super::{ran, shown_over};
+use super::probe::{Gate, Probe, Watch, awaited_over, seen_over};
+use super::shown_over;
 use pgn_base::{PATIENCE_DEFAULT, Seed, Sink, Source};
 use pgn_drill::drill_text;
 use pgn_hub::Hub;
 use pgn_memory::{MemSink, MemSource};
 use pgn_run::{Print, converse};
-use std::alloc::Global;
+use std::alloc::{AllocError, Global};
 use std::sync::Wait;
 use std::test::Fail;
+use std::thread::Threads;
+use std::time::Clock;
 
 const TWO_WRITERS: &str = "\
 \\session a 1
@@ -25,8 +26,7 @@ fn sessions_run_side_by_side(rt: HostRuntime) -> Result<(), Fail> {
         TWO_WRITERS,
         PATIENCE_DEFAULT,
     )?;
-    assert!(rt; seen.ended);
-    assert!(rt; !seen.is_spent);
+    assert_eq!(rt; (seen.ended, seen.is_spent), (true, false));
     Ok(())
 }
 
@@ -79,16 +79,22 @@ fn a_run_is_over_its_hub(rt: HostRuntime) -> Result<(), Fail> {
 fn a_drill_is_over_its_hub(rt: HostRuntime) -> Result<(), Fail> {
     let alloc = rt.alloc();
     let input = drill_text(alloc, 0, 1, 1)?;
-    let print = Print::Summary { seed: 0, notes: 1 };
-    let text = shown_over::<Probe<Gate<0>>, HostRuntime>(
-        &rt,
-        alloc,
-        str::from_utf8(&input)?,
-        PATIENCE_DEFAULT,
-        print,
-    )?;
+    let text = summary_of(&rt, alloc, &input);
+    drop(input);
+    let text = text?;
     assert_eq!(rt; text.as_str(), "no memory");
     Ok(())
+}
+
+// The summary of the drill that this input is, over a gate.
+fn summary_of<R: Threads + Wait + Clock + Sync>(
+    rt: &R,
+    alloc: Global,
+    input: &[u8],
+) -> Result<String, Fail> {
+    let print = Print::Summary { seed: 0, notes: 1 };
+    let input = str::from_utf8(input)?;
+    shown_over::<Probe<Gate<0>>, R>(rt, alloc, input, PATIENCE_DEFAULT, print)
 }
 
 // A client asks `LISTEN c` and `NOTIFY c, 'x'`, and terminates.
@@ -107,20 +113,29 @@ fn is_served<H: Hub + Drop, R: Wait, S: Source, K: Sink>(
     converse::<H::Pass, H, R, S, K>(rt, alloc, Seed::fixed(), source, sink).is_ok()
 }
 
+// Whether it is, over a gate, written to this sink.
+fn is_served_over_a_gate<R: Wait>(
+    rt: &R,
+    alloc: Global,
+    sink: &mut MemSink,
+) -> Result<bool, AllocError> {
+    let talk = Vec::from_slice(alloc, TALK)?;
+    let mut source = MemSource::new(talk, Vec::new(alloc), 100);
+    let served = is_served::<Probe<Gate<0>>, R, MemSource, MemSink>(rt, alloc, &mut source, sink);
+    drop(source);
+    Ok(served)
+}
+
 // The read behind the second query finds no memory, so that nothing of its answer is written.
 #[test]
 fn a_conversation_is_over_its_hub(rt: HostRuntime) -> Result<(), Fail> {
     let alloc = rt.alloc();
-    let mut source = MemSource::new(Vec::from_slice(alloc, TALK)?, Vec::new(alloc), 100);
     let mut sink = MemSink::new(alloc, 100, Vec::new(alloc), 100)?;
-    let served = is_served::<Probe<Gate<0>>, HostRuntime, MemSource, MemSink>(
-        &rt,
-        alloc,
-        &mut source,
-        &mut sink,
-    );
-    assert!(rt; !served);
-    assert!(rt; sink.held() == FIRST_ANSWER);
+    let served = is_served_over_a_gate(&rt, alloc, &mut sink);
+    let is_first_answer = sink.held() == FIRST_ANSWER;
+    drop(sink);
+    assert!(rt; !served?);
+    assert!(rt; is_first_answer);
     Ok(())
 }
 
@@ -141,21 +156,14 @@ NOTIFY d
 
 #[test]
 fn where_a_session_is_refused_memory_the_others_end(rt: HostRuntime) -> Result<(), Fail> {
-    let alloc = rt.alloc();
-    let (hub, sessions, ended) = ran::<Probe<Gate<0>>, HostRuntime>(
+    let (seen, awaits) = awaited_over::<Gate<0>, HostRuntime>(
         &rt,
-        alloc,
+        rt.alloc(),
         ONE_IS_REFUSED,
         3_600_000_000,
     )?;
-    let begun = hub.begun();
-    drop(hub);
-    let awaits = awaits_of(alloc, &sessions);
-    drop(sessions);
-    assert!(rt; !ended);
-    assert_eq!(rt; begun, 1);
-    let awaits = awaits?;
-    assert!(rt; awaits.as_str() == "" || awaits.as_str() == "+await 4\n");
+    assert_eq!(rt; (seen.ended, seen.begun), (false, 1));
+    assert!(rt; awaits.is_empty() || awaits.as_slice() == [4].as_slice());
     Ok(())
 }
 
@@ -185,8 +193,7 @@ LISTEN c
 #[test]
 fn a_session_that_waits_looks_whether_it_was_woken(rt: HostRuntime) -> Result<(), Fail> {
     let seen = seen_over::<Gate<0>, HostRuntime>(&rt, rt.alloc(), AWAITS_ITSELF, 10)?;
-    assert!(rt; seen.ended);
-    assert_eq!(rt; seen.wake_looks, 13);
+    assert_eq!(rt; (seen.ended, seen.wake_looks), (true, 13));
     Ok(())
 }
 
@@ -207,7 +214,6 @@ UNLISTEN d
 #[test]
 fn a_session_tells_its_channels_where_it_has_acted(rt: HostRuntime) -> Result<(), Fail> {
     let seen = seen_over::<Watch<0>, HostRuntime>(&rt, rt.alloc(), LISTENS_AND_UNLISTENS, 10)?;
-    assert!(rt; seen.ended);
-    assert_eq!(rt; seen.interests, 3);
+    assert_eq!(rt; (seen.ended, seen.interests), (true, 3));
     Ok(())
 }

@@ -1,4 +1,4 @@
-ghost use Rattle.std.specs.Prelude.{◌≡◌, ◌≤◌, Ok, length, IfOk, OnOk, All};
+ghost use Rattle.std.specs.Prelude.{◌≡◌, ◌≤◌, [], ◌∷◌, Ok, length, IfOk, OnOk, All};
 ghost use Rattle.std.specs.Thread.{IsSync, IsSend};
 ghost use Rattle.pgn_session.specs.Runs.{IsReady, IsOver};
 ghost use Rattle.pgn_session.specs.declared.doing.Doing.TheVariants.{Over};
@@ -297,8 +297,13 @@ fn publish_side_by_side<
 
 fn note(alloc: Global) -> Result<Note, Fail> {
     let channel = Name::new(alloc, "c")?;
-    let payload = Payload::new(alloc, "")?;
-    Ok(Note { channel, payload })
+    match Payload::new(alloc, "") {
+        Ok(payload) => Ok(Note { channel, payload }),
+        Err(_) => {
+            drop(channel);
+            Err(Fail::from("no memory"))
+        }
+    }
 }
 
 // A seat of database 1, whose session may send so many notifications.
@@ -321,17 +326,36 @@ fn open_passes<P: PassView + Send + Drop, H: Hub<Pass = P> + Drop>(
     ensures second { IfOk result (λ opened. H.is_pass opened.0 opened.2 × ((P.known opened.2).session ≡ 2)) }
     ensures seats { IfOk result (λ opened. length (H.shape opened.0).seats ≡ 2) }
 {
-    let mut seats = Vec::with_capacity(alloc, 2)?;
-    seats.push(seat(notes))?;
-    seats.push(seat(notes))?;
+    let seats = Vec::from_array(alloc, [seat(notes), seat(notes)])?;
     let (hub, mut passes) = H::open(alloc, Setup::new(2, 2, seats, Format::One))?;
     let Some(second) = passes.pop() else {
+        drop(passes);
+        drop(hub);
         return Err(Fail::from("no pass"));
     };
     let Some(first) = passes.pop() else {
+        drop(second);
+        drop(passes);
+        drop(hub);
         return Err(Fail::from("one pass"));
     };
     Ok((hub, first, second))
+}
+
+// Two passes, in order.
+fn pair<P: Drop>(alloc: Global, first: P, second: P) -> Result<Vec<P>, AllocError>
+    ensures { IfOk result (λ passes. passes.items ≡ first ∷ second ∷ []) }
+{
+    let mut passes = Vec::new(alloc);
+    let Ok(()) = passes.reserve(2) else {
+        drop(first);
+        drop(second);
+        drop(passes);
+        return Err(AllocError);
+    };
+    passes.push(first).unwrap();
+    passes.push(second).unwrap();
+    Ok(passes)
 }
 
 // Ends the hub: how many transactions its journal has.
@@ -347,10 +371,13 @@ fn count_journal<P: PassView + Send + Drop, H: Hub<Pass = P> + Drop>(
     requires second_session { (P.known second).session ≡ 2 }
     requires seats { length (H.shape hub).seats ≡ 2 }
 {
-    let mut passes = Vec::with_capacity(alloc, 2)?;
-    passes.push(first)?;
-    passes.push(second)?;
-    Ok(hub.gather(passes).count)
+    match pair(alloc, first, second) {
+        Ok(passes) => Ok(hub.gather(passes).count),
+        Err(_) => {
+            drop(hub);
+            Err(Fail::from("no memory"))
+        }
+    }
 }
 
 // How many transactions two passes have committed, of so many each, and how many the journal has.
@@ -362,13 +389,26 @@ fn publish_and_gather<
     requires few { times ≤ 1000 }
 {
     let notes = [note(alloc)?];
+    let done = publish_notes_and_gather::<P, H, R>(rt, alloc, &notes, times);
+    drop(notes);
+    done
+}
+
+// The same of this notification.
+fn publish_notes_and_gather<
+    P: PassView + Send + Drop,
+    H: Hub<Pass = P> + Sync + Drop,
+    R: Threads + Wait + Clock + Sync,
+>(rt: &R, alloc: Global, notes: &[Note; 1], times: u32) -> Result<(u32, u32, u32), Fail>
+    requires few { times ≤ 1000 }
+{
     let (hub, mut first, mut second) = open_passes::<P, H>(alloc, times)?;
     let (by_first, by_second) = publish_side_by_side(
         rt,
         &hub,
         &mut first,
         &mut second,
-        &notes,
+        notes,
         times,
     );
     let count = count_journal(alloc, hub, first, second)?;

@@ -2,6 +2,7 @@ ghost use Rattle.std.specs.Prelude.{◌≡◌, ◌≤◌, map, length, All};
 ghost use Rattle.std.specs.List.{range_with_len};
 
 use super::ran;
+use super::turns::awaits_of;
 use pgn_base::{Delivery, Enlisted, Full, ListenSet, Note, Usage, Xid};
 use pgn_hub::{Hub, PassView, Roll, Setup};
 use pgn_wordhub::WordHub;
@@ -154,39 +155,49 @@ pub(super) struct Probe<P: Pace> {
 }
 
 impl<P: Pace> Probe<P> {
-    pub(super) fn begun(&self) -> u64 {
-        self.counts.begun.load(Ordering::SeqCst)
-    }
-
-    pub(super) fn rests(&self) -> u64 {
-        self.counts.rests.load(Ordering::SeqCst)
-    }
-
-    pub(super) fn is_spent(&self) -> bool {
-        self.counts.is_spent()
-    }
-
-    fn seen(&self, ended: bool) -> Seen {
+    pub(super) fn seen(&self, ended: bool) -> Seen {
         Seen {
             ended,
             is_spent: self.counts.is_spent(),
+            begun: self.counts.begun.load(Ordering::SeqCst),
+            rests: self.counts.rests.load(Ordering::SeqCst),
             wake_looks: self.counts.wake_looks.load(Ordering::SeqCst),
             interests: self.counts.interests.load(Ordering::SeqCst),
         }
     }
 }
 
-// What sessions came to over a probe: whether memory sufficed, whether somebody waited for others in vain, and how often they looked
-// whether they were woken and told their channels.
+// What sessions came to over a probe: whether memory sufficed, whether somebody waited for others in vain, how many transactions have begun,
+// and how often they slept, looked whether they were woken and told their channels.
 #[derive(Clone, Copy)]
 pub(super) struct Seen {
     pub(super) ended: bool,
     pub(super) is_spent: bool,
+    pub(super) begun: u64,
+    pub(super) rests: u64,
     pub(super) wake_looks: u64,
     pub(super) interests: u64,
 }
 
-// Runs the sessions of an input at this pace, with so much patience. The probe and the sessions are dropped here, once for all tests.
+// Runs the sessions of an input at this pace, with so much patience: what they came to, and what their awaits did. The probe and the
+// sessions are dropped here, once for all tests.
+pub(super) fn awaited_over<P: Pace + Sync + Drop, R: Threads + Wait + Clock + Sync>(
+    rt: &R,
+    alloc: Global,
+    input: &str,
+    patience: u64,
+) -> Result<(Seen, Vec<u64>), Fail>
+    requires { 1 ≤ patience }
+{
+    let (probe, sessions, ended) = ran::<Probe<P>, R>(rt, alloc, input, patience)?;
+    let awaits = awaits_of(alloc, &sessions);
+    drop(sessions);
+    let seen = probe.seen(ended);
+    drop(probe);
+    Ok((seen, awaits?))
+}
+
+// The same without the awaits.
 pub(super) fn seen_over<P: Pace + Sync + Drop, R: Threads + Wait + Clock + Sync>(
     rt: &R,
     alloc: Global,
@@ -195,10 +206,8 @@ pub(super) fn seen_over<P: Pace + Sync + Drop, R: Threads + Wait + Clock + Sync>
 ) -> Result<Seen, Fail>
     requires { 1 ≤ patience }
 {
-    let (probe, sessions, ended) = ran::<Probe<P>, R>(rt, alloc, input, patience)?;
-    drop(sessions);
-    let seen = probe.seen(ended);
-    drop(probe);
+    let (seen, awaits) = awaited_over::<P, R>(rt, alloc, input, patience)?;
+    drop(awaits);
     Ok(seen)
 }
 
@@ -219,14 +228,24 @@ impl<P: Pace> Hub for Probe<P> {
     ghost seated = { λ probe pass h. h.view.seated };
 
     fn open(alloc: Global, setup: Setup) -> Result<(Self, Vec<Self::Pass>), AllocError> {
-        let counts = Arc::new(alloc, Counts::new())?;
-        let (hub, passes) = WordHub::open(alloc, setup)?;
-        let probe = Probe {
-            hub,
-            counts,
-            pace: PhantomData,
+        let Ok(counts) = Arc::new(alloc, Counts::new()) else {
+            drop(setup);
+            return Err(AllocError);
         };
-        Ok((probe, passes))
+        match WordHub::open(alloc, setup) {
+            Ok((hub, passes)) => {
+                let probe = Probe {
+                    hub,
+                    counts,
+                    pace: PhantomData,
+                };
+                Ok((probe, passes))
+            }
+            Err(error) => {
+                drop(counts);
+                Err(error)
+            }
+        }
     }
 
     fn publish<R: Wait>(&self, rt: &R, pass: &mut Self::Pass, notes: &[Note]) -> Result<Xid, Full> {

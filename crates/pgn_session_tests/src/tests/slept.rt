@@ -1,9 +1,9 @@
-ghost use Rattle.std.specs.Prelude.{All};
+ghost use Rattle.std.specs.Prelude.{◌≤◌, All};
 ghost use Rattle.std.specs.Thread.{IsSync, IsSend};
 ghost use Rattle.pgn_session.specs.Runs.{IsReady};
 
 use super::opened;
-use super::probe::{Probe, Watch};
+use super::probe::{Pace, Probe, Seen, Watch};
 use super::turns::awaits_of;
 use pgn_base::PAGES_DEFAULT;
 use pgn_hub::{Hub, PassView};
@@ -57,6 +57,24 @@ fn run_two_beside<
     run_two_groups(rt, alloc, hub, first, second).is_ok()
 }
 
+// What the sessions of an input come to, of which the first two take turns beside the others, and what their awaits did.
+fn awaited_beside<P: Pace + Sync + Drop, R: Threads + Wait + Clock + Sync>(
+    rt: &R,
+    alloc: Global,
+    input: &str,
+    patience: u64,
+) -> Result<(Seen, Vec<u64>), Fail>
+    requires { 1 ≤ patience }
+{
+    let (hub, mut sessions) = opened::<Probe<P>>(alloc, input, PAGES_DEFAULT, patience)?;
+    let ended = run_two_beside(rt, alloc, &hub, sessions.as_mut_slice());
+    let seen = hub.seen(ended);
+    drop(hub);
+    let awaits = awaits_of(alloc, &sessions);
+    drop(sessions);
+    Ok((seen, awaits?))
+}
+
 // Two sessions that wait for a flag, of which the first listens, and one that raises it after twelve lines.
 const RAISED_LATE: &str = "\
 \\session a 1
@@ -84,21 +102,13 @@ NOTIFY c
 // patience is a second; it would be spent by then if a sleep were counted for longer than it was.
 #[test]
 fn sessions_that_take_turns_count_no_more_than_they_sleep(rt: HostRuntime) -> Result<(), Fail> {
-    let alloc = rt.alloc();
-    let (hub, mut sessions) = opened::<Probe<Watch<1_000_000>>>(
-        alloc,
+    let (seen, awaits) = awaited_beside::<Watch<1_000_000>, HostRuntime>(
+        &rt,
+        rt.alloc(),
         RAISED_LATE,
-        PAGES_DEFAULT,
         1_000_000,
     )?;
-    let ended = run_two_beside(&rt, alloc, &hub, sessions.as_mut_slice());
-    let is_spent = hub.is_spent();
-    drop(hub);
-    let awaits = awaits_of(alloc, &sessions);
-    drop(sessions);
-    assert!(rt; ended);
-    assert!(rt; !is_spent);
-    let awaits = awaits?;
-    assert_eq!(rt; awaits.as_str(), "+await 15\n+await 15\n");
+    assert_eq!(rt; (seen.ended, seen.is_spent), (true, false));
+    assert!(rt; awaits.as_slice() == [15, 15].as_slice());
     Ok(())
 }

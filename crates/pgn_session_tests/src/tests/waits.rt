@@ -1,5 +1,6 @@
 use super::probe::{Watch, seen_over};
 use super::shown_over;
+use pgn_memory::repeated;
 use pgn_run::Print;
 use pgn_wordhub::WordHub;
 use std::alloc::{AllocError, Global};
@@ -25,15 +26,30 @@ fn a_listener_reads_while_it_sleeps_for_a_flag(rt: HostRuntime) -> Result<(), Fa
         READS_WHILE_IT_WAITS,
         u64::MAX,
     )?;
-    assert!(rt; seen.ended);
-    assert!(rt; !seen.is_spent);
+    assert_eq!(rt; (seen.ended, seen.is_spent), (true, false));
     Ok(())
 }
 
 // A session that awaits a flag which another one raises after 1,000 lines.
 fn late_flag(alloc: Global) -> Result<String, AllocError> {
-    let notes = "NOTIFY c\n".repeat(alloc, 1000)?;
-    format!(in alloc; "\\session a 1\n\\await f\n\\session b 1\n{notes}\\signal f\n")
+    let lines = repeated(alloc, "NOTIFY c\n", 1000, "\\signal f\n")?;
+    let input = behind(
+        alloc,
+        "\\session a 1\n\\await f\n\\session b 1\n",
+        lines.as_str(),
+    );
+    drop(lines);
+    input
+}
+
+// One text behind another one.
+fn behind(alloc: Global, first: &str, second: &str) -> Result<String, AllocError> {
+    let mut text = String::from_str(alloc, first)?;
+    if text.push_str(second).is_err() {
+        drop(text);
+        return Err(AllocError);
+    }
+    Ok(text)
 }
 
 // So much patience is a second where it is slept, and some looks where it is counted alone.
@@ -47,7 +63,9 @@ fn a_flag_that_is_raised_late_is_found(rt: HostRuntime) -> Result<(), Fail> {
         input.as_str(),
         1_000_000,
         Print::Text,
-    )?;
+    );
+    drop(input);
+    let text = text?;
     assert!(rt; text.as_str().contains("> \\await f\n+await 1003\nend\n"));
     Ok(())
 }

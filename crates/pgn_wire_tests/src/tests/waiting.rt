@@ -4,7 +4,7 @@ ghost use Rattle.std.specs.Prelude.{◌≡◌, None};
 use super::serving::served;
 use pgn_base::{Failed, Seed, Sink, Source};
 use pgn_hub::Hub;
-use pgn_run::run_service;
+use pgn_run::{Means, run_service};
 use pgn_wordhub::WordHub;
 use std::alloc::{AllocError, Global};
 use std::sync::atomic::{AtomicU64, Ordering};
@@ -149,14 +149,12 @@ fn is_served<R: Threads + Wait + Sync, S: Source, K: Sink + Send>(
     source: &mut S,
     sink: &mut K,
 ) -> bool {
-    let end = run_service::<<WordHub as Hub>::Pass, WordHub, R, S, K>(
+    let means = Means {
         rt,
         alloc,
-        Seed::fixed(),
-        1,
-        source,
-        sink,
-    );
+        hashes: Seed::fixed(),
+    };
+    let end = run_service::<<WordHub as Hub>::Pass, WordHub, R, S, K>(&means, 1, source, sink);
     end.is_ok()
 }
 

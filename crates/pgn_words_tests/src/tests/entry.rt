@@ -55,8 +55,13 @@ pub(crate) fn virtual_note(alloc: Global) -> Result<Note, Fail>
     ensures { IfOk result (λ note. note ≡ virtual_note) }
 {
     let channel = Name::new(alloc, "virtual")?;
-    let payload = Payload::new(alloc, "This is the payload")?;
-    Ok(Note { channel, payload })
+    match Payload::new(alloc, "This is the payload") {
+        Ok(payload) => Ok(Note { channel, payload }),
+        Err(_) => {
+            drop(channel);
+            Err(Fail::from("no memory"))
+        }
+    }
 }
 
 // The holder draws a number, and answers where the journal ends: at the beginning, or behind one entry.
@@ -297,12 +302,25 @@ fn assert_shown(
     Ok(())
 }
 
+// The same over a queue of its own.
+fn assert_shown_in_a_queue(rt: &impl Abort, alloc: Global, notes: &[Note; 1]) -> Result<(), Fail>
+    requires { notes.now ≡ virtual_note ∷ [] }
+{
+    let (queue, mut first, mut second) = open_two(alloc)?;
+    join(&queue, &mut second);
+    let done = assert_shown(rt, &queue, &mut first, &mut second, notes);
+    drop(first);
+    drop(second);
+    drop(queue);
+    done
+}
+
 #[test]
 fn a_listener_reads_what_the_head_shows(rt: HostRuntime) -> Result<(), Fail> {
     let notes = [virtual_note(rt.alloc())?];
-    let (queue, mut first, mut second) = open_two(rt.alloc())?;
-    join(&queue, &mut second);
-    assert_shown(&rt, &queue, &mut first, &mut second, &notes)
+    let done = assert_shown_in_a_queue(&rt, rt.alloc(), &notes);
+    drop(notes);
+    done
 }
 
 // Asserts that each commit wakes the listener, which takes the wake once.
@@ -335,10 +353,23 @@ fn assert_woken(
     Ok(())
 }
 
+// The same over a queue of its own.
+fn assert_woken_in_a_queue(rt: &impl Abort, alloc: Global, notes: &[Note; 1]) -> Result<(), Fail>
+    requires { notes.now ≡ virtual_note ∷ [] }
+{
+    let (queue, mut first, mut second) = open_two(alloc)?;
+    join(&queue, &mut second);
+    let done = assert_woken(rt, &queue, &mut first, &mut second, notes);
+    drop(first);
+    drop(second);
+    drop(queue);
+    done
+}
+
 #[test]
 fn a_wake_is_taken_and_set_again(rt: HostRuntime) -> Result<(), Fail> {
     let notes = [virtual_note(rt.alloc())?];
-    let (queue, mut first, mut second) = open_two(rt.alloc())?;
-    join(&queue, &mut second);
-    assert_woken(&rt, &queue, &mut first, &mut second, &notes)
+    let done = assert_woken_in_a_queue(&rt, rt.alloc(), &notes);
+    drop(notes);
+    done
 }

@@ -15,6 +15,7 @@ use super::{make_ready, open_two};
 use pgn_base::{Note, Xid};
 use pgn_layout::Pos;
 use pgn_words::{PosWord, WordPass, WordQueue};
+use std::alloc::Global;
 use std::test::Fail;
 
 // Neither seat has a mark, as the first look sees: the first unfinished number, which is then the least mark.
@@ -187,6 +188,9 @@ fn join_between(
 fn a_joiner_between_the_looks_is_waited_for(rt: HostRuntime) -> Result<(), Fail> {
     let (queue, mut first, mut second) = open_two(rt.alloc())?;
     let met = join_between(&queue, &mut first, &mut second);
+    drop(first);
+    drop(second);
+    drop(queue);
     let (found, (mark, pos)) = met.ok_or("the joiner was not met")?;
     assert!(rt; found == PosWord::At { mark, pos });
     Ok(())
@@ -220,12 +224,24 @@ fn join_before(
     Some((look_again(queue, first, second), base))
 }
 
+// The same over a queue of its own.
+fn join_before_in_a_queue(alloc: Global, notes: &[Note; 1]) -> Result<(PosWord, (Xid, Pos)), Fail>
+    requires { notes.now ≡ virtual_note ∷ [] }
+{
+    let (queue, mut first, mut second) = open_two(alloc)?;
+    let met = join_before(&queue, &mut first, &mut second, notes);
+    drop(first);
+    drop(second);
+    drop(queue);
+    Ok(met.ok_or("the joiner was not met")?)
+}
+
 #[test]
 fn a_joiner_keeps_the_place_that_it_has_loaded(rt: HostRuntime) -> Result<(), Fail> {
     let notes = [virtual_note(rt.alloc())?];
-    let (queue, mut first, mut second) = open_two(rt.alloc())?;
-    let met = join_before(&queue, &mut first, &mut second, &notes);
-    let (found, (mark, pos)) = met.ok_or("the joiner was not met")?;
+    let met = join_before_in_a_queue(rt.alloc(), &notes);
+    drop(notes);
+    let (found, (mark, pos)) = met?;
     assert_eq!(rt; (mark.get(), pos.get()), (3, 0));
     assert!(rt; found == PosWord::At { mark, pos });
     Ok(())

@@ -12,6 +12,7 @@ use super::{join, open_two};
 use pgn_base::Note;
 use pgn_hub::PassView;
 use pgn_words::{WordPass, WordQueue};
+use std::alloc::Global;
 use std::sync::Wait;
 use std::test::Fail;
 use std::thread;
@@ -85,11 +86,26 @@ fn publish_on_two<R: Threads + Wait + Sync>(
     )
 }
 
+// The same over a queue of its own.
+fn publish_in_a_queue<R: Threads + Wait + Sync>(
+    rt: &R,
+    alloc: Global,
+    notes: &[Note; 1],
+) -> Result<(Option<u32>, Option<u32>), Fail>
+    requires { notes.now ≡ virtual_note ∷ [] }
+{
+    let (queue, first, second) = open_two(alloc)?;
+    let told = publish_on_two(rt, &queue, first, second, notes);
+    drop(queue);
+    Ok(told)
+}
+
 #[test]
 fn two_threads_draw_store_and_load(rt: HostRuntime) -> Result<(), Fail> {
     let notes = [virtual_note(rt.alloc())?];
-    let (queue, first, second) = open_two(rt.alloc())?;
-    let told = publish_on_two(&rt, &queue, first, second, &notes);
+    let told = publish_in_a_queue(&rt, rt.alloc(), &notes);
+    drop(notes);
+    let told = told?;
     assert!(rt; matches!(told, (Some(4), Some(5)) | (Some(5), Some(4))));
     Ok(())
 }
@@ -136,12 +152,26 @@ fn publish_and_read<R: Threads + Sync>(
     )
 }
 
+// The same over a queue of its own, whose second session has joined.
+fn read_in_a_queue<R: Threads + Sync>(
+    rt: &R,
+    alloc: Global,
+    notes: &[Note; 1],
+) -> Result<(Option<bool>, bool), Fail>
+    requires { notes.now ≡ virtual_note ∷ [] }
+{
+    let (queue, first, mut second) = open_two(alloc)?;
+    join(&queue, &mut second);
+    let done = publish_and_read(rt, &queue, first, second, notes);
+    drop(queue);
+    Ok(done)
+}
+
 #[test]
 fn a_thread_reads_while_another_writes(rt: HostRuntime) -> Result<(), Fail> {
     let notes = [virtual_note(rt.alloc())?];
-    let (queue, first, mut second) = open_two(rt.alloc())?;
-    join(&queue, &mut second);
-    let done = publish_and_read(&rt, &queue, first, second, &notes);
-    assert_eq!(rt; done, (Some(true), true));
+    let done = read_in_a_queue(&rt, rt.alloc(), &notes);
+    drop(notes);
+    assert_eq!(rt; done?, (Some(true), true));
     Ok(())
 }

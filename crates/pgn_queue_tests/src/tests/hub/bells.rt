@@ -1,9 +1,8 @@
 //! Bells: who has armed its own is rung by what it waits for, and no ring is lost.
-ghost use Rattle.std.specs.Prelude.{◌≡◌, ◌<◌, length, IsSome, IfOk};
+ghost use Rattle.std.specs.Prelude.{◌≡◌, ◌<◌, length, IfOk};
 ghost use Rattle.pgn_wordhub.specs.Passes.{hub_shape};
 
 use super::*;
-use std::process::Abort;
 use std::sync::atomic::{AtomicU64, Ordering};
 use std::thread::{Threads, join};
 use std::time::{Clock, Duration, Instant};
@@ -101,9 +100,12 @@ fn one_dozes_first<R: Threads + Wait + Sync>(rt: &R, hub: &WordHub)
 // A ring that is lost leaves a thread asleep for ever.
 #[test]
 fn no_ring_is_lost(rt: HostRuntime) -> Result<(), Fail> {
-    let (hub, _first, _second) = open_two::<WordPass, WordHub>(rt.alloc(), Format::One)?;
+    let (hub, first, second) = open_two::<WordPass, WordHub>(rt.alloc(), Format::One)?;
+    drop(first);
+    drop(second);
     both_ring_first(&rt, &hub);
     one_dozes_first(&rt, &hub);
+    drop(hub);
     Ok(())
 }
 
@@ -113,7 +115,6 @@ fn open_armed<P: PassView + Send + Drop, H: Hub<Pass = P> + Drop>(
 ) -> Result<(H, P, P), Fail>
     ensures first { IfOk result (λ opened. H.is_pass opened.0 opened.1) }
     ensures second { IfOk result (λ opened. H.is_pass opened.0 opened.2) }
-    ensures listens { IfOk result (λ opened. IsSome (P.known opened.2).mark) }
     ensures seats { IfOk result (λ opened. length (H.shape opened.0).seats ≡ 2) }
     ensures flags { IfOk result (λ opened. (H.shape opened.0).flags ≡ 2) }
 {
@@ -125,34 +126,27 @@ fn open_armed<P: PassView + Send + Drop, H: Hub<Pass = P> + Drop>(
     Ok((hub, first, second))
 }
 
-// Whether the second session, which has dozed until its bell rang, is to read.
-fn dozes_and_is_woken<P: PassView + Send + Drop, H: Hub<Pass = P>, R: Wait>(
-    rt: &R,
-    hub: &H,
-    pass: &mut P,
-) -> bool
-    requires own { H.is_pass hub.now pass.old }
-    requires listens { IsSome (P.known pass.old).mark }
-    requires seats { length (H.shape hub.now).seats ≡ 2 }
-{
-    hub.doze(rt, SECOND, Duration::MAX);
-    woken(hub, pass)
-}
-
-fn assert_rung_by_a_commit<P: PassView + Send + Drop, H: Hub<Pass = P> + Drop, R: Wait + Abort>(
+// The first session sends, and the second one dozes until its bell rings: the number, and whether it is to read.
+fn send_and_doze<P: PassView + Send + Drop, H: Hub<Pass = P> + Drop, R: Wait>(
     rt: &R,
     alloc: Global,
-) -> Result<(), Fail> {
+) -> Result<(Option<Xid>, Option<bool>), Fail> {
     let (hub, mut first, mut second) = open_armed::<P, H>(alloc)?;
-    let sent = send(rt, alloc, &hub, &mut first, 1);
-    assert!(rt; sent.is_some());
-    assert!(rt; dozes_and_is_woken(rt, &hub, &mut second));
-    Ok(())
+    let sent = send(rt, alloc, &hub, &mut first, "c", 1);
+    hub.doze(rt, SECOND, Duration::MAX);
+    let woken = woken(&hub, &mut second);
+    drop(first);
+    drop(second);
+    drop(hub);
+    Ok((sent, woken))
 }
 
 #[test]
 fn a_commit_rings_who_listens(rt: HostRuntime) -> Result<(), Fail> {
-    assert_rung_by_a_commit::<WordPass, WordHub, HostRuntime>(&rt, rt.alloc())
+    let (sent, woken) = send_and_doze::<WordPass, WordHub, HostRuntime>(&rt, rt.alloc())?;
+    assert!(rt; sent.is_some());
+    assert_eq!(rt; woken, Some(true));
+    Ok(())
 }
 
 // Whether a doze of the second session lasts as long as it may.
@@ -169,24 +163,26 @@ fn dozes_to_the_end<P: PassView + Send + Drop, H: Hub<Pass = P>, R: Wait + Clock
     Ok(slept >= short)
 }
 
-fn assert_not_rung<P: PassView + Send + Drop, H: Hub<Pass = P> + Drop, R: Wait + Clock + Abort>(
+// The first session sends on a channel that the second one, which dozes then, does not listen on: the number, and whether the doze lasts.
+fn send_apart_and_doze<P: PassView + Send + Drop, H: Hub<Pass = P> + Drop, R: Wait + Clock>(
     rt: &R,
     alloc: Global,
-) -> Result<(), Fail> {
+) -> Result<(Option<Xid>, bool), Fail> {
     let (hub, mut first, second) = open_armed::<P, H>(alloc)?;
-    let sent = send_on(rt, alloc, &hub, &mut first, "d", 1);
+    let sent = send(rt, alloc, &hub, &mut first, "d", 1);
     let dozed = dozes_to_the_end::<P, H, R>(rt, &hub);
     drop(first);
     drop(second);
     drop(hub);
-    assert!(rt; sent.is_some());
-    assert!(rt; dozed?);
-    Ok(())
+    Ok((sent, dozed?))
 }
 
 #[test]
 fn a_commit_on_another_channel_rings_nobody(rt: HostRuntime) -> Result<(), Fail> {
-    assert_not_rung::<WordPass, WordHub, HostRuntime>(&rt, rt.alloc())
+    let (sent, dozed) = send_apart_and_doze::<WordPass, WordHub, HostRuntime>(&rt, rt.alloc())?;
+    assert!(rt; sent.is_some());
+    assert!(rt; dozed);
+    Ok(())
 }
 
 // The first session raises a flag, and the second one dozes until that rings it.
@@ -194,9 +190,12 @@ fn raise_and_doze<P: PassView + Send + Drop, H: Hub<Pass = P> + Drop, R: Wait>(
     rt: &R,
     alloc: Global,
 ) -> Result<(), Fail> {
-    let (hub, mut first, _second) = open_armed::<P, H>(alloc)?;
+    let (hub, mut first, second) = open_armed::<P, H>(alloc)?;
     hub.raise(&mut first, 0);
     hub.doze(rt, SECOND, Duration::MAX);
+    drop(first);
+    drop(second);
+    drop(hub);
     Ok(())
 }
 
@@ -210,10 +209,14 @@ fn call_off_and_doze<P: PassView + Send + Drop, H: Hub<Pass = P> + Drop, R: Wait
     rt: &R,
     alloc: Global,
 ) -> Result<bool, Fail> {
-    let (hub, _first, _second) = open_armed::<P, H>(alloc)?;
+    let (hub, first, second) = open_armed::<P, H>(alloc)?;
     hub.call_off();
     hub.doze(rt, SECOND, Duration::MAX);
-    Ok(hub.is_called_off())
+    let off = hub.is_called_off();
+    drop(first);
+    drop(second);
+    drop(hub);
+    Ok(off)
 }
 
 #[test]
@@ -227,10 +230,13 @@ fn ring_and_doze_twice<P: PassView + Send + Drop, H: Hub<Pass = P> + Drop, R: Wa
     rt: &R,
     alloc: Global,
 ) -> Result<(), Fail> {
-    let (hub, _first, _second) = open_armed::<P, H>(alloc)?;
+    let (hub, first, second) = open_armed::<P, H>(alloc)?;
     hub.ring(SECOND);
     hub.doze(rt, SECOND, Duration::MAX);
     hub.doze(rt, SECOND, Duration::MAX);
+    drop(first);
+    drop(second);
+    drop(hub);
     Ok(())
 }
 

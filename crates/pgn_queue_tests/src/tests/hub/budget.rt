@@ -38,7 +38,7 @@ fn send_all<P: PassView + Send + Drop, H: Hub<Pass = P>, R: Wait>(
     hub: &H,
     pass: &mut P,
     notes: &[Note; 1],
-) -> Option<u32>
+) -> Option<Xid>
     requires own { H.is_pass hub.now pass.old }
     ensures own { H.is_pass hub.now pass.new }
 {
@@ -57,7 +57,7 @@ fn send_all_of_a_hub<P: PassView + Send + Drop, H: Hub<Pass = P> + Drop, R: Wait
     rt: &R,
     alloc: Global,
     notes: &[Note; 1],
-) -> Result<(Option<u32>, u32), Fail> {
+) -> Result<(Option<Xid>, u32), Fail> {
     let (hub, mut pass) = open_one::<P, H>(alloc)?;
     let last = send_all(rt, &hub, &mut pass, notes);
     let left = pass.notes_left();
@@ -73,6 +73,6 @@ fn a_hub_sends_the_last_that_it_may(rt: HostRuntime) -> Result<(), Fail> {
     let notes = [note(alloc, 1).ok_or("no memory")?];
     let sent = send_all_of_a_hub::<WordPass, WordHub, HostRuntime>(&rt, alloc, &notes);
     drop(notes);
-    assert_eq!(rt; sent?, (Some(1_048_577), 0));
+    assert_eq!(rt; sent?, (Some(Xid::new(1_048_577)), 0));
     Ok(())
 }

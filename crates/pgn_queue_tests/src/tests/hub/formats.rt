@@ -12,9 +12,9 @@ fn send_three<P: PassView + Send + Drop, H: Hub<Pass = P> + Drop, R: Wait>(
 ) -> Result<(u64, Option<(u32, usize)>), Fail> {
     let (hub, mut reader, mut writer) = open_two::<P, H>(alloc, format)?;
     enlist(&hub, &mut reader);
-    send(rt, alloc, &hub, &mut writer, LARGEST);
-    send(rt, alloc, &hub, &mut writer, second);
-    send(rt, alloc, &hub, &mut writer, third);
+    send(rt, alloc, &hub, &mut writer, "c", LARGEST);
+    send(rt, alloc, &hub, &mut writer, "c", second);
+    send(rt, alloc, &hub, &mut writer, "c", third);
     let pages = hub.usage(rt, &mut writer).occupied;
     let received = receive(alloc, &hub, &mut reader);
     drop(reader);

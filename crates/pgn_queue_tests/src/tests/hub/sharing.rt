@@ -1,11 +1,8 @@
 //! Two sessions that share the queue for long.
-ghost use Rattle.std.specs.Prelude.{◌≡◌, ◌<◌, true, length, IsSome};
-ghost use Rattle.std.specs.Thread.{IsSync, IsSend};
-ghost use Rattle.pgn_words.specs.Passes.{known_of};
+ghost use Rattle.std.specs.Prelude.{◌≡◌, ◌<◌, true, length};
 ghost use Rattle.pgn_wordhub.specs.Passes.{IsHubPass};
 
 use super::*;
-use std::alloc::AllocError;
 use std::process::Abort;
 use std::thread::{Threads, join_mut};
 
@@ -34,16 +31,15 @@ fn send_and_read<P: PassView + Send + Drop, H: Hub<Pass = P>, R: Wait>(
 ) -> bool
     requires writer { H.is_pass hub.now writer.old }
     requires reader { H.is_pass hub.now reader.old }
-    requires listens { IsSome (P.known reader.old).mark }
     ensures writer { H.is_pass hub.now writer.new }
     ensures reader { H.is_pass hub.now reader.new }
-    ensures listens { IsSome (P.known reader.new).mark }
 {
-    let sent = publish_one(rt, hub, writer, notes);
+    let sent = publish(rt, hub, writer, notes);
     let mut got = Vec::new(alloc);
-    hub.interest(reader, set);
-    let read = hub.scan(alloc, reader, set, &mut got);
-    sent.is_some() && read.is_ok() && got.len() == 1
+    let read = read_on(alloc, hub, reader, set, &mut got);
+    let count = got.len();
+    drop(got);
+    sent.is_some() && read.is_some() && count == 1
 }
 
 // Whether so many rounds all went so.
@@ -59,10 +55,8 @@ fn rounds<P: PassView + Send + Drop, H: Hub<Pass = P>, R: Wait>(
 ) -> bool
     requires writer { H.is_pass hub.now writer.old }
     requires reader { H.is_pass hub.now reader.old }
-    requires listens { IsSome (P.known reader.old).mark }
     ensures writer { H.is_pass hub.now writer.new }
     ensures reader { H.is_pass hub.now reader.new }
-    ensures listens { IsSome (P.known reader.new).mark }
 {
     'rounds: for _ in 0..times {
         if !send_and_read(rt, alloc, hub, writer, reader, notes, set) {
@@ -131,49 +125,60 @@ fn empty_log(alloc: Global) -> Log {
 }
 
 // One try: a publish, whatever it answers, and then a read. A number that was answered is one that was sent.
-fn try_once<R: Wait>(
+fn try_once<P: PassView + Send + Drop, H: Hub<Pass = P>, R: Wait>(
     rt: &R,
     alloc: Global,
-    hub: &WordHub,
-    pass: &mut WordPass,
+    hub: &H,
+    pass: &mut P,
     notes: &[Note; 1],
     set: &ListenSet,
     log: &mut Log,
 ) -> Result<(), AllocError>
-    requires own { IsHubPass hub.now pass.old }
-    requires listens { IsSome (known_of pass.old).mark }
-    ensures own { IsHubPass hub.now pass.new }
-    ensures listens { IsSome (known_of pass.new).mark }
-    ensures session { (known_of pass.new).session ≡ (known_of pass.old).session }
+    requires { H.is_pass hub.now pass.old }
+    ensures { H.is_pass hub.now pass.new }
 {
-    if let Some(xid) = publish_one(rt, hub, pass, notes) {
+    if let Some(xid) = publish(rt, hub, pass, notes) {
         log.sent.push(xid)?;
     }
-    hub.interest(pass, set);
-    hub.scan(alloc, pass, set, &mut log.got)?;
-    Ok(())
+    match read_on(alloc, hub, pass, set, &mut log.got) {
+        Some(_) => Ok(()),
+        None => Err(AllocError),
+    }
 }
 
 // All tries of one session.
-fn tries<R: Wait>(
+fn tries<P: PassView + Send + Drop, H: Hub<Pass = P>, R: Wait>(
     rt: &R,
     alloc: Global,
-    hub: &WordHub,
-    pass: &mut WordPass,
+    hub: &H,
+    pass: &mut P,
     notes: &[Note; 1],
     set: &ListenSet,
     log: &mut Log,
 ) -> Result<(), AllocError>
-    requires own { IsHubPass hub.now pass.old }
-    requires listens { IsSome (known_of pass.old).mark }
-    ensures own { IsHubPass hub.now pass.new }
-    ensures listens { IsSome (known_of pass.new).mark }
-    ensures session { (known_of pass.new).session ≡ (known_of pass.old).session }
+    requires { H.is_pass hub.now pass.old }
+    ensures { H.is_pass hub.now pass.new }
 {
     'tries: for _ in 0..TIMES {
         try_once(rt, alloc, hub, pass, notes, set, log)?;
     }
     Ok(())
+}
+
+// The same on the words.
+fn tries_on_words<R: Wait>(
+    rt: &R,
+    alloc: Global,
+    hub: &WordHub,
+    pass: &mut WordPass,
+    notes: &[Note; 1],
+    set: &ListenSet,
+    log: &mut Log,
+) -> Result<(), AllocError>
+    requires { IsHubPass hub.now pass.old }
+    ensures { IsHubPass hub.now pass.new }
+{
+    tries(rt, alloc, hub, pass, notes, set, log)
 }
 
 // Those of two sessions on two threads.
@@ -189,20 +194,14 @@ fn try_both<R: Threads + Wait + Sync>(
     second_log: &mut Log,
 ) -> Result<(), AllocError>
     requires first { IsHubPass hub.now first.old }
-    requires first_listens { IsSome (known_of first.old).mark }
     requires second { IsHubPass hub.now second.old }
-    requires second_listens { IsSome (known_of second.old).mark }
     ensures first { IsHubPass hub.now first.new }
-    ensures first_listens { IsSome (known_of first.new).mark }
-    ensures first_session { (known_of first.new).session ≡ (known_of first.old).session }
     ensures second { IsHubPass hub.now second.new }
-    ensures second_listens { IsSome (known_of second.new).mark }
-    ensures second_session { (known_of second.new).session ≡ (known_of second.old).session }
 {
     let (one, other) = join_mut(
         rt,
-        &mut || tries(rt, alloc, hub, first, notes, set, first_log),
-        &mut || tries(rt, alloc, hub, second, notes, set, second_log),
+        &mut || tries_on_words(rt, alloc, hub, first, notes, set, first_log),
+        &mut || tries_on_words(rt, alloc, hub, second, notes, set, second_log),
     );
     one.and(other)
 }
@@ -217,18 +216,15 @@ fn read_rest<P: PassView + Send + Drop, H: Hub<Pass = P>>(
     log: &mut Log,
 ) -> Result<(), AllocError>
     requires own { H.is_pass hub.now pass.old }
-    requires listens { IsSome (P.known pass.old).mark }
     requires other { H.is_pass hub.now other.old }
     ensures own { H.is_pass hub.now pass.new }
-    ensures session { (P.known pass.new).session ≡ (P.known pass.old).session }
     ensures other { H.is_pass hub.now other.new }
-    ensures other_mark { (P.known other.new).mark ≡ (P.known other.old).mark }
-    ensures other_session { (P.known other.new).session ≡ (P.known other.old).session }
 {
     hub.meet(other, pass);
-    hub.interest(pass, set);
-    hub.scan(alloc, pass, set, &mut log.got)?;
-    Ok(())
+    match read_on(alloc, hub, pass, set, &mut log.got) {
+        Some(_) => Ok(()),
+        None => Err(AllocError),
+    }
 }
 
 // Whether a delivery is of the next of these transactions, which its sender has published.
@@ -272,13 +268,9 @@ fn share<R: Threads + Wait + Sync>(
     second_log: &mut Log,
 ) -> Result<(), AllocError>
     requires first { IsHubPass hub.now first.old }
-    requires first_listens { IsSome (known_of first.old).mark }
     requires second { IsHubPass hub.now second.old }
-    requires second_listens { IsSome (known_of second.old).mark }
     ensures first { IsHubPass hub.now first.new }
-    ensures first_session { (known_of first.new).session ≡ (known_of first.old).session }
     ensures second { IsHubPass hub.now second.new }
-    ensures second_session { (known_of second.new).session ≡ (known_of second.old).session }
 {
     try_both(
         rt, alloc, hub, first, second, notes, set, first_log, second_log,
@@ -288,7 +280,7 @@ fn share<R: Threads + Wait + Sync>(
 }
 
 // They do so over a hub of their own: how many transactions its journal has.
-fn share_a_hub<R: Threads + Wait + Sync + Abort>(
+fn share_a_hub<R: Threads + Wait + Sync>(
     rt: &R,
     alloc: Global,
     notes: &[Note; 1],
@@ -310,12 +302,17 @@ fn share_a_hub<R: Threads + Wait + Sync + Abort>(
         first_log,
         second_log,
     );
-    assert!(rt; done.is_ok());
+    if done.is_err() {
+        drop(first);
+        drop(second);
+        drop(hub);
+        return Err(Fail::from("no memory"));
+    }
     count_journal(alloc, hub, first, second)
 }
 
 // How many transactions there were, and whether each of two sessions received all of them.
-fn shared<R: Threads + Wait + Sync + Abort>(
+fn shared<R: Threads + Wait + Sync>(
     rt: &R,
     alloc: Global,
     notes: &[Note; 1],

@@ -1,4 +1,4 @@
-use Rattle.std.proofs.Common.{rules, ap, ◌∙◌}
+use Rattle.std.proofs.Common.{ap, ◌∙◌}
 use Rattle.pgn_outlet.specs.Passes.{knows}
 use Rattle.pgn_seats_tests.proofs.OpenedLaws.{two_serve}
 use Rattle.pgn_seats_tests.proofs.tests.open_desks.Goals as goal

@@ -1,4 +1,4 @@
-use Rattle.pgn_queue_tests.proofs.OpenedPair.{as_many, both_of, opened_pair}
+use Rattle.pgn_queue_tests.proofs.OpenedPair.{as_many, both_of}
 use Rattle.pgn_queue_tests.proofs.tests.hub.open_pages.Goals as goal
 
 pub both-first-requires : goal.both-first-requires
@@ -9,15 +9,3 @@ returns-clause-first g c = (both_of (g.H.Hub.is_pass c.in_ok-hub.hub) c.in_ok-hu
 
 pub returns-clause-second : goal.returns-clause-second
 returns-clause-second g c = (both_of (g.H.Hub.is_pass c.in_ok-hub.hub) c.in_ok-hub.passes.items c.both-first.result.0 c.both-first.result.1 c.both-first.ensures c.in_ok-hub.ensures.own).1
-
-pub returns-clause-first_out : goal.returns-clause-first_out
-returns-clause-first_out g c = (opened_pair g.P.PassView.known c.in_ok-setup.setup.seats c.in_ok-hub.passes.items c.both-first.result.0 c.both-first.result.1 c.in_ok-setup.ensures.seats c.both-first.ensures c.in_ok-hub.ensures.passes).0.out
-
-pub returns-clause-second_out : goal.returns-clause-second_out
-returns-clause-second_out g c = (opened_pair g.P.PassView.known c.in_ok-setup.setup.seats c.in_ok-hub.passes.items c.both-first.result.0 c.both-first.result.1 c.in_ok-setup.ensures.seats c.both-first.ensures c.in_ok-hub.ensures.passes).1.out
-
-pub returns-clause-first_session : goal.returns-clause-first_session
-returns-clause-first_session g c = (opened_pair g.P.PassView.known c.in_ok-setup.setup.seats c.in_ok-hub.passes.items c.both-first.result.0 c.both-first.result.1 c.in_ok-setup.ensures.seats c.both-first.ensures c.in_ok-hub.ensures.passes).0.session_is
-
-pub returns-clause-second_session : goal.returns-clause-second_session
-returns-clause-second_session g c = (opened_pair g.P.PassView.known c.in_ok-setup.setup.seats c.in_ok-hub.passes.items c.both-first.result.0 c.both-first.result.1 c.in_ok-setup.ensures.seats c.both-first.ensures c.in_ok-hub.ensures.passes).1.session_is

@@ -1,4 +1,4 @@
-use Rattle.std.proofs.Common.{◌≡◌, Bool, true, false, List, length, get_or, sym, ap, ◌∙◌}
+use Rattle.std.proofs.Common.{◌≡◌, Bool, false, List, length, get_or, sym, ap, ◌∙◌}
 use Rattle.pgn_journal.specs.declared.tx.Fate.TheVariants.{Committed}
 use Rattle.pgn_journal.specs.Packing.{image}
 use Rattle.pgn_journal.specs.Pieces.{draft}
