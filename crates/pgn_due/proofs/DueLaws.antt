@@ -16,6 +16,7 @@ use Rattle.pgn_due.specs.Next.{due_between}
 
 -- What lists of transactions sent, one behind another.
 
+-- what transactions sent, and more of them behind these
 pub sent-append : (x : ℕ) (xs ys : List Tx) → sent_from x (xs ++ ys) ≡ sent_from x xs ++ sent_from (x + length xs) ys
 sent-append x [] ys = ap (λ (n : ℕ). sent_from n ys) (let e : x ≡ x + length (let none : List Tx = [] in none) = omega arith in e)
 sent-append x (tx ∷ xs) ys =
@@ -37,10 +38,12 @@ drop_whole [] [] = refl
 drop_whole [] (y ∷ ys) = refl
 drop_whole (x ∷ xs) ys = drop_whole xs ys
 
+-- what the first k transactions sent is the first of all that was sent
 take_sent : (journal : List Tx) (k : ℕ) → take (length (sent_in (take k journal))) (sent_in journal) ≡ sent_in (take k journal)
 take_sent journal k =
     ap (λ (ss : List (ℕ × Delivery)). take (length (sent_in (take k journal))) ss) (cut journal k) ∙ take_whole (sent_in (take k journal)) (sent_from (3 + length (take k journal)) (drop k journal))
 
+-- what the transactions from a to b sent, as a part of all that was sent
 between_sent : (journal : List Tx) (a b : ℕ) → a ≤ b
     → drop (length (sent_in (take a journal))) (take (length (sent_in (take b journal))) (sent_in journal)) ≡ sent_from (3 + length (take a journal)) (drop a (take b journal))
 between_sent journal a b le =
@@ -58,6 +61,7 @@ numbered journal mark to low = elim (cases_lt (length journal) (mark - 3)) [
   | inr within ↦ ap (λ (n : ℕ). sent_from n (entries_between journal mark to)) (omega (arith, low, within, length-take (mark - 3) journal))
 ]
 
+-- the same by the numbers of the transactions
 between_is : (journal : List Tx) (mark to : ℕ) → 3 ≤ mark → mark ≤ to → drop (sent_before journal mark) (take (sent_before journal to) (sent_in journal)) ≡ sent_from mark (entries_between journal mark to)
 between_is journal mark to low le = between_sent journal (mark - 3) (to - 3) (omega (arith, le)) ∙ numbered journal mark to low
 

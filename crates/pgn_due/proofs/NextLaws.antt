@@ -105,11 +105,13 @@ at_is one at h = grind (arith, h)
 is_there : (one at : ℕ) → one ≡ at → is_at (nat_cmp one) at ≡ true
 is_there one at e = grind (arith, e)
 
+-- the place that was put in is kept
 pub added_one : (one : Option ℕ) (old new : ℕ → Bool) (at : ℕ) → Adds one old new → one ≡ Some at → new at ≡ true
 added_one None old new at adds e = absurd (let no : ⊥ = cc in no)
 added_one (Some one) old new at adds e =
     adds at ∙ ap (λ (b : Bool). cond b true (old at)) (is_there one at (let same : one ≡ at = cc in same))
 
+-- one that was kept still is
 pub added_kept : (one : Option ℕ) (old new : ℕ → Bool) (at : ℕ) → Adds one old new → old at ≡ true → new at ≡ true
 added_kept None old new at adds h = adds at ∙ h
 added_kept (Some one) old new at adds h = elim (cases_Bool (is_at (nat_cmp one) at)) [
@@ -117,6 +119,7 @@ added_kept (Some one) old new at adds h = elim (cases_Bool (is_at (nat_cmp one) 
   | inr off ↦ adds at ∙ ap (λ (b : Bool). cond b true (old at)) off ∙ h
 ]
 
+-- and no other one is
 pub added_which : (one : Option ℕ) (old new : ℕ → Bool) (at : ℕ) → Adds one old new → new at ≡ true → (old at ≡ true) ⊎ (one ≡ Some at)
 added_which None old new at adds h = inl (sym (adds at) ∙ h)
 added_which (Some one) old new at adds h = elim (cases_Bool (is_at (nat_cmp one) at)) [
@@ -124,6 +127,7 @@ added_which (Some one) old new at adds h = elim (cases_Bool (is_at (nat_cmp one)
   | inr off ↦ inl (sym (adds at ∙ ap (λ (b : Bool). cond b true (old at)) off) ∙ h)
 ]
 
+-- what was kept and not taken out is kept
 pub dropped_kept : (one : Option ℕ) (old new : ℕ → Bool) (at : ℕ) → Drops one old new → old at ≡ true → (one ≡ Some at → ⊥) → new at ≡ true
 dropped_kept None old new at drops h other = drops at ∙ h
 dropped_kept (Some one) old new at drops h other = elim (cases_Bool (is_at (nat_cmp one) at)) [
@@ -131,6 +135,7 @@ dropped_kept (Some one) old new at drops h other = elim (cases_Bool (is_at (nat_
   | inr off ↦ drops at ∙ ap (λ (b : Bool). cond b false (old at)) off ∙ h
 ]
 
+-- and nothing else is
 pub dropped_was : (one : Option ℕ) (old new : ℕ → Bool) (at : ℕ) → Drops one old new → new at ≡ true → (old at ≡ true) × (one ≡ Some at → ⊥)
 dropped_was None old new at drops h = (sym (drops at) ∙ h, λ e. let no : ⊥ = cc in no)
 dropped_was (Some one) old new at drops h = elim (cases_Bool (is_at (nat_cmp one) at)) [

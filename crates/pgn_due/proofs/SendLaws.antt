@@ -63,6 +63,7 @@ sent_push x (t ∷ txs) tx =
     ap (λ (sent : List (ℕ × Delivery)). sent_by x t ++ sent) (sent_push (x + 1) txs tx) ∙ sym (append_assoc (sent_by x t) (sent_from (x + 1) txs) (sent_by (x + 1 + length txs) tx))
     ∙ ap (λ (n : ℕ). (sent_by x t ++ sent_from (x + 1) txs) ++ sent_by n tx) (omega arith)
 
+-- what the first k transactions sent, and one more
 pub sent_one : (journal : List Tx) (k : ℕ) (tx : Tx) → slice_get journal k ≡ Some tx → sent_in (take (k + 1) journal) ≡ sent_in (take k journal) ++ sent_by (FIRST_XID + k) tx
 sent_one journal k tx e =
     let long : length (take k journal) ≡ k = omega (arith, length-take k journal, slice_get_within journal k tx e) in
@@ -128,6 +129,7 @@ pub record StandsAt (journal : List Tx) (at : ℕ) (spot : Spot) : Type 0 where
   pub is : slice_get (sent_in journal) at ≡ Some sent
   pub stands : Stands journal spot sent
 
+-- where the spots show what was sent, one of them stands in its place
 pub stands_at : (journal : List Tx) (spots : List Spot) (at : ℕ) (spot : Spot) → map (shown_at journal) spots ≡ map Some (sent_in journal) → slice_get spots at ≡ Some spot → StandsAt journal at spot
 stands_at journal spots at spot h e = by (slice_get (sent_in journal) at) refl
   where
@@ -154,6 +156,7 @@ sender_within journal at spot s = slice_get_within journal spot.tx s.stands.tx s
 sender_is : (journal : List Tx) (at : ℕ) (spot : Spot) (d : Tx) (s : StandsAt journal at spot) → s.stands.tx ≡ get_or journal spot.tx d
 sender_is journal at spot d s = sym (get_or_from_slice_get journal spot.tx s.stands.tx d s.stands.sender)
 
+-- a spot's notification is the one of its transaction that it says
 pub note_there : (journal : List Tx) (at : ℕ) (spot : Spot) (d : Tx) (notes : List Note) (s : StandsAt journal at spot) → notes ≡ (get_or journal spot.tx d).notes → slice_get notes spot.note ≡ Some s.stands.note
 note_there journal at spot d notes s these =
     ap (λ (ns : List Note). slice_get ns spot.note) these ∙ ap (λ (tx : Tx). slice_get tx.notes spot.note) (sym (sender_is journal at spot d s)) ∙ s.stands.has

@@ -85,6 +85,7 @@ more_there set channel other there = elim (cases_Bool (bytes_eq other channel)) 
   | inr off ↦ sym (ap (λ (b : Bool). has_name set other || b) off ∙ or_false (has_name set other))
 ]
 
+-- a channel more that is listened to
 pub is_more : (set : List (List ℕ)) (channel : List ℕ) → IsMore channel set (after_action set (Listen channel))
 is_more set channel = λ other. elim (cases_Bool (has_name set channel)) [
   | inl there ↦ ap (λ (b : Bool). has_name (cond b set (set ++ channel ∷ [])) other) there ∙ more_there set channel other there
@@ -111,6 +112,7 @@ less_other other channel one set apart = elim (cases_Bool (bytes_eq other one)) 
       grind (arith, on, differs)
 ]
 
+-- a channel less
 pub is_less : (channel : List ℕ) (set : List (List ℕ)) → IsLess channel set (after_action set (Unlisten channel))
 is_less channel [] = λ other. refl
 is_less channel (one ∷ set) = λ other. elim (cases_Bool (bytes_eq channel one)) [

@@ -71,6 +71,7 @@ other_seat seats seat k is apart e = apart (omega arith)
 own_seat : (seats seat k : ℕ) → IsSeat seats seat → k ≡ seat - 1 → seat ≡ k + 1
 own_seat seats seat k is e = let least : 1 ≤ seat = is.least in omega arith
 
+-- one seat has taken the bytes of a frame, so each seat is where all frames with this one lead
 pub calls_took : (most seat : ℕ) (frames : List Frame) (bytes : List ℕ) (inboxes : List (Outlet (Option Ask))) (olds news : List Caller) → IsSeat (length olds) seat → EachSeat (Calls most frames) inboxes olds
     → DoesAt (λ old new. Takes seat old new (signs_in bytes)) (seat - 1) olds news → EachSeat (Calls most (frames ++ frame_at seat bytes ∷ [])) inboxes news
 calls_took most seat frames bytes inboxes olds news is calls does = λ k inbox caller lt.
@@ -119,6 +120,7 @@ first_more most seat of frames bytes inbox other old new e h t own = record {
   put = put-then seat sender (knows old.asks) (knows new.asks) h.asks t.asks h.put t.put;
 }
 
+-- one seat has taken the first of a frame's bytes, so each was put the first of what all frames with this one ask
 pub firsts_took : (most seat : ℕ) (frames : List Frame) (bytes : List ℕ) (inboxes : List (Outlet (Option Ask))) (olds news : List Caller) → IsSeat (length olds) seat → EachSeat (Calls most frames) inboxes olds
     → EachSeat CallsOn inboxes olds → DoesAt (λ old new. TakesFirst seat old new (signs_in bytes)) (seat - 1) olds news → EachSeat OwnsInbox inboxes news
     → EachSeat (HasPutFirst most (frames ++ frame_at seat bytes ∷ [])) inboxes news
@@ -139,6 +141,7 @@ firsts_took most seat frames bytes inboxes olds news is calls on does owns = λ 
           (owns k inbox caller lt) (ap (λ (c : Caller). knows c.asks) (does.others k caller apart))
     ]
 
+-- each seat was put all that the frames ask so far, and so the first of it
 pub firsts_now : (most : ℕ) (frames : List Frame) (inboxes : List (Outlet (Option Ask))) (callers : List Caller) → EachSeat (Calls most frames) inboxes callers → EachSeat CallsOn inboxes callers
     → EachSeat (HasPutFirst most frames) inboxes callers
 firsts_now most frames inboxes callers calls on = λ k inbox caller lt.
@@ -150,6 +153,7 @@ pub before_none : (seats : ℕ) (a : Option (List ℕ)) → OfKnown (AreBefore s
 before_none seats None = tt
 before_none seats (Some xs) = λ more fault h. h
 
+-- one frame more of known bytes
 pub before_more : (seats at : ℕ) (frames : List Frame) (f : Frame) (a b c : Option (List ℕ)) → OfKnown (AreBefore seats at frames) a b → OfKnown (NextFrame seats at (Comes f)) b c
     → OfKnown (AreBefore seats (at + (4 + length f.bytes)) (frames ++ f ∷ [])) a c
 before_more seats at frames f None b c h k = tt
@@ -200,6 +204,7 @@ Reads-some most at seat bytes a b c inboxes olds news h is k on does owns = reco
   asked = firsts_took most seat h.frames bytes inboxes olds news is h.asked on does owns;
 }
 
+-- memory did not suffice before the next frame
 pub Reads-refused : (most at : ℕ) (a b : Option (List ℕ)) (inboxes : List (Outlet (Option Ask))) (callers : List Caller) → Reads most at a b inboxes callers → EachSeat CallsOn inboxes callers → HasReadSome most a inboxes callers
 Reads-refused most at a b inboxes callers h on = record {
   frames = h.frames;
@@ -217,6 +222,7 @@ pub Reads-fault : (most at : ℕ) (fault : FrameFault) (a b c : Option (List ℕ
     → OfKnown (NextFrame (length callers) at (Wrong fault)) b c → ReadsAll most a inboxes callers (Some fault)
 Reads-fault most at fault a b c inboxes callers h k = record { frames = h.frames; are = before_fault (length callers) at h.frames fault a b c h.are k; asked = h.asked }
 
+-- the source failed before the next frame
 pub Reads-first : (most at : ℕ) (a b : Option (List ℕ)) (inboxes : List (Outlet (Option Ask))) (callers : List Caller) → Reads most at a b inboxes callers → ReadsFirst most a inboxes callers
 Reads-first most at a b inboxes callers h = record { frames = h.frames; are = before_first (length callers) at h.frames a b h.are; asked = h.asked }
 
@@ -349,6 +355,7 @@ put_end most seat frames inbox other old new h waits ended = record {
       (sym (map-append (λ (what : Option Ask). let c : Came (Option Ask) = record { session = seat; what = what } in c) (map Some h.asks) (None ∷ [])));
 }
 
+-- so each was put all that the frames ask, and the end
 pub ended_all : (most : ℕ) (frames : List Frame) (inboxes : List (Outlet (Option Ask))) (olds news : List Caller) → EachSeat (Calls most frames) inboxes olds → EachSeat CallsOn inboxes olds
     → AreEnded (length olds) inboxes olds news → EachSeat (HasPutAll most frames) inboxes news
 ended_all most frames inboxes olds news calls on ended = λ k inbox caller lt.
@@ -361,6 +368,7 @@ put_all_first : (most seat : ℕ) (frames : List Frame) (inbox : Outlet (Option 
 put_all_first most seat frames inbox caller h =
     record { own = h.own; asks = h.asks; asked = h.asked; now = map Some h.asks ++ None ∷ []; others = []; first = sym (append-nil (map Some h.asks ++ None ∷ [])); put = h.put }
 
+-- and where not each was told the end, each was put the first of that
 pub ended_some : (most n : ℕ) (frames : List Frame) (inboxes : List (Outlet (Option Ask))) (olds news : List Caller) → EachSeat (Calls most frames) inboxes olds → EachSeat CallsOn inboxes olds
     → AreEnded n inboxes olds news → EachSeat (HasPutFirst most frames) inboxes news
 ended_some most n frames inboxes olds news calls on ended = λ k inbox caller lt.
@@ -384,6 +392,7 @@ Told-all most a inboxes olds news fault h on ended = record {
   asked = ended_all most h.frames inboxes olds news h.asked on ended;
 }
 
+-- where the source failed
 pub Told-first : (most : ℕ) (a : Option (List ℕ)) (inboxes : List (Outlet (Option Ask))) (olds news : List Caller) → ReadsTo (Err Failed) most a inboxes olds → EachSeat CallsOn inboxes olds
     → AreEnded (length olds) inboxes olds news → HasReadFirst most a inboxes news
 Told-first most a inboxes olds news h on ended = record {

@@ -143,6 +143,7 @@ module _ {P A E : Type 0} (is_own : P → Type 0) (shape : Shape) (known : P →
   number-of : (n : ℕ) → 1 ≤ n → n < 1 + length new → IsNumber n
   number-of n least less = (least, omega (arith, less, few, long))
 
+  -- what came of each session is the first of what it has recorded
   pub first-came : AreFirst (logs_of new) cames
   first-came n = at (place n (length new))
     where
@@ -195,6 +196,7 @@ module _ {P A E : Type 0} (is_own : P → Type 0) (shape : Shape) (known : P →
       of (Err e) out = tt
       of (Ok a) out = record { cames = cames; whole = whole-came out; output = writes }
 
+  -- after a failed write a prefix of what all sessions have recorded
   pub came-prefix : {D : Type 0} (sections : List Section) (before after : Option (List ℕ)) (so_far : Result Unit D) → Writes before after so_far (tagged sections cames)
       → answer_of so_far r ≡ Err Write → ComesWhole sections (logs_of new) (AppendsPrefix before after)
   came-prefix {D} sections before after (Ok x) writes e = absurd (of r e)
@@ -208,11 +210,13 @@ module _ {P A E : Type 0} (is_own : P → Type 0) (shape : Shape) (known : P →
     output = subst (λ (l : List ℕ). AppendsPrefix before after l) (sym (tagged-append sections cames (map rest_of new))) (prefix-more before after (tagged sections cames) (tagged sections (map rest_of new)) writes);
   }
 
+  -- where memory did not suffice the first of it
   pub came-memory : {D : Type 0} (sections : List Section) (before after : Option (List ℕ)) (so_far : Result Unit D) → Writes before after so_far (tagged sections cames)
       → answer_of so_far r ≡ Err Memory → ComesFirst sections (logs_of new) (Appends before after)
   came-memory sections before after (Ok x) writes e = record { cames = cames; first = first-came; output = writes }
   came-memory sections before after (Err d) writes e = absurd (cc)
 
+  -- where it is done all sessions are over
   pub came-over : {D : Type 0} (so_far : Result Unit D) → OnOk (answer_of so_far r) (All (IsOver is_own shape known) new)
   came-over {D} (Err d) = tt
   came-over {D} (Ok x) = of r played.played_out

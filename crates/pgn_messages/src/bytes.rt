@@ -78,7 +78,7 @@ impl Bytes {
         self.put(&n.to_be_bytes())
     }
 
-    /// Puts a number in decimal at the end: at most 40 digits.
+    /// Puts a number in decimal at the end. It has at most 20 digits; what is promised is what `itoa` does of all its types.
     pub fn put_decimal(&mut self, n: u64) -> Result<(), AllocError>
         ensures value { OnOk result (self.new ≡ self.old ++ decimal n) }
         ensures short { OnOk result (length self.new ≤ length self.old + 40) }

@@ -20,10 +20,12 @@ fold-both : {S I : Type 0} (next : S → I → S) (s : S) (front rest : List I) 
 fold-both next s [] rest = refl
 fold-both next s (i ∷ front) rest = fold-both next (next s i) front rest
 
+-- where something holds along the first, and along the rest behind it, it holds along both
 pub Along-both : {S I : Type 0} (next : S → I → S) (P : S → I → Type 0) (s : S) (front rest : List I) → Along next P s front → Along next P (fold next s front) rest → Along next P s (front ++ rest)
 Along-both next P s [] rest h k = k
 Along-both next P s (i ∷ front) rest h k = (h.0, Along-both next P (next s i) front rest h.1 k)
 
+-- and where it holds along both, it does along the rest
 pub Along-back : {S I : Type 0} (next : S → I → S) (P : S → I → Type 0) (s : S) (front rest : List I) → Along next P s (front ++ rest) → Along next P (fold next s front) rest
 Along-back next P s [] rest h = h
 Along-back next P s (i ∷ front) rest h = Along-back next P (next s i) front rest h.1

@@ -249,6 +249,7 @@ of-one-tag tag.Notify other t h k e = absurd (omega (arith, t))
 of-one-tag (tag.Select rows) (tag.Select more) t h k e = ap (λ (n : ℕ). let d : Tag = tag.Select n in d) (last-number (codes "SELECT ") rows more (omega (arith, h)) (omega (arith, k)) e)
 of-one-tag (tag.Select rows) other t h k e = absurd (omega (arith, t))
 
+-- two tags of replies with the same text are the same
 pub tag-same : (done other : Tag) → IsLineTag done → IsLineTag other → tag_text done ≡ tag_text other → done ≡ other
 tag-same done other h k e = of-one-tag done other (sym (tag-tells done) ∙ ap tag_sign e ∙ tag-tells other) h k e
 

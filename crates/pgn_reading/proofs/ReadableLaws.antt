@@ -176,6 +176,7 @@ same-trace a b e1 e2 e3 e4 =
     ∙ ap (λ (is : List Item). let t : Trace = record { session = b.session; db = b.db; items = is; last = a.last } in t) e3
     ∙ ap (λ (o : Option ℕ). let t : Trace = record { session = b.session; db = b.db; items = b.items; last = o } in t) e4
 
+-- where the lines of two traces, as they are read, begin the same lines, the traces are the same, and so is what follows
 pub trace-same : (section : Section) (trace other : Trace) (rest more : List (List ℕ)) → IsReadTrace section trace → IsReadTrace section other → trace_lines section trace ++ rest ≡ trace_lines section other ++ more → (trace ≡ other) × (rest ≡ more)
 trace-same section trace other rest more h k e =
     let lines : List ScriptLine = section.lines in
@@ -187,6 +188,7 @@ trace-same section trace other rest more h k e =
     (record { order = k.in_order; each = k.items; single = k.apart; end = k.last }) apart in
     (same-trace trace other (h.session ∙ sym k.session) (h.database ∙ sym k.database) one.0 one.1, one.2)
 
+-- so are all traces with the same lines
 pub traces-same : (sections : List Section) (traces others : List Trace) → EachSection IsReadTrace sections traces → EachSection IsReadTrace sections others → traces_lines sections traces ≡ traces_lines sections others → traces ≡ others
 traces-same [] [] [] h k e = refl
 traces-same [] [] (other ∷ others) h k e = absurd k
@@ -247,6 +249,7 @@ same-queued : (fate : Fate) (queued queued' : ℕ) (notes : List Note) → IsRea
 same-queued Committed queued queued' notes h k as_queued = h ∙ sym k
 same-queued Aborted queued queued' notes h k as_queued = as_queued refl
 
+-- where the lines of two transactions begin the same lines, and no notification follows, the two are the same, and so is what follows
 pub entry-same : (sections : List Section) (x : ℕ) (tx other : Tx) (rest more : List (List ℕ)) → IsReadTx sections tx → IsReadTx sections other → first_sign rest ≢ 1 → first_sign more ≢ 1 → entry_lines x tx ++ rest ≡ entry_lines x other ++ more
     → (tx ≡ other) × (rest ≡ more)
 entry-same sections x tx other rest more h k a b e =
@@ -264,6 +267,7 @@ entry-same sections x tx other rest more h k a b e =
     let queueing : IsReadQueued tx.fate other.queued (length tx.notes) = subst (λ (ns : List Note). IsReadQueued tx.fate other.queued (length ns)) (sym notes.0) same_fate in
     (same-tx tx other sessions.0 (h.database ∙ ap (λ (n : ℕ). database_of sections n) sessions.0 ∙ sym k.database) notes.0 (same-queued tx.fate tx.queued other.queued tx.notes h.queueing queueing f.as_queued) f.same, notes.1)
 
+-- so are the transactions of two journals
 pub entries-same : (sections : List Section) (x : ℕ) (txs others : List Tx) (rest more : List (List ℕ)) → All (IsReadTx sections) txs → All (IsReadTx sections) others → EndsEntries (first_sign rest) → EndsEntries (first_sign more)
     → entries_lines x txs ++ rest ≡ entries_lines x others ++ more → (txs ≡ others) × (rest ≡ more)
 entries-same sections x [] [] rest more h k a b e = (refl, e)

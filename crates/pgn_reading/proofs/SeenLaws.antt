@@ -115,6 +115,7 @@ seen-step s item other items none same rest =
     plain-step s other (seen items) none ∙ ap (λ (i : Item). let all : List Item = i ∷ completed (after_item s i) (seen items) in all) same ∙ ap (λ (is : List Item). let all : List Item = item ∷ is in all) rest
 
 module _ (terms : Terms) (journal : List Tx) where
+  -- a lawful list that leaves nothing owed is what comes of its lines, when they are completed
   pub read-is_completed_from : (s : State) (items : List Item) → Along after_item (Allowed terms journal) s items → (fold after_item s items).owed ≡ Nothing → completed s (seen items) ≡ items
   read-is_completed_from s [] h end = refl
   read-is_completed_from s (Line n ∷ items) h end = seen-step s (Line n) (Line n) items (ap without_line h.0.answered) refl (read-is_completed_from (after_item s (Line n)) items h.1 end)

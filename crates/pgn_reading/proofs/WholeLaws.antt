@@ -178,26 +178,31 @@ completed-all P none kept s (item ∷ items) h =
     added (Listing (name ∷ names) ending) = All-nil P
     added owed = All-nil P
 
+-- A completed item shows what the item shows that was read, so what holds of what that one shows holds of it: that the queue was full there,
 full-whole : (settings : Settings) (journal : List Tx) (s : State) (item : Item) → IsFullThere settings journal item → IsFullThere settings journal (whole s item)
 full-whole settings journal s (Publish xid notes) h = h
 full-whole settings journal s (QueueFull full notes) h = h
 full-whole settings journal s item h = h
 
+-- that the numbers it shows are below n,
 shown-whole : (n : ℕ) (s : State) (item : Item) → IsShownWithin n item → IsShownWithin n (whole s item)
 shown-whole n s (Publish xid notes) h = h
 shown-whole n s (QueueFull full notes) h = h
 shown-whole n s item h = h
 
+-- and P of the holders that it names
 named-whole : (P : ℕ × ℕ → Type 0) (s : State) (item : Item) → All P (named_shown item) → All P (named_shown (whole s item))
 named-whole P s (Publish xid notes) h = h
 named-whole P s (QueueFull full notes) h = h
 named-whole P s item h = h
 
+-- and of the flags that it has found, by what was owed before it
 found-whole : (P : ℕ × ℕ → Type 0) (s : State) (owed : Owed) (item : Item) → All P (found_shown owed item) → All P (found_shown owed (whole s item))
 found-whole P s owed (Publish xid notes) h = subst (λ (ps : List (ℕ × ℕ)). All P ps) (sym (finds-none owed (whole s (Publish xid notes)) refl)) (All-nil P)
 found-whole P s owed (QueueFull full notes) h = subst (λ (ps : List (ℕ × ℕ)). All P ps) (sym (finds-none owed (whole s (QueueFull full notes)) refl)) (All-nil P)
 found-whole P s owed item h = h
 
+-- what the walk adds before an item's line has found no flag
 found-added : (P : ℕ × ℕ → Type 0) (s : State) → Along after_item (λ t item. All P (found_shown t.owed item)) s (without_line s.owed)
 found-added P s = by s.owed refl
   where

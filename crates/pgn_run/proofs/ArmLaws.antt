@@ -125,6 +125,7 @@ pub ruleset served_laws = (nothing-served)
 
 -- What is written.
 
+-- the signs that frames have for a seat, and those of more frames behind them
 pub signs_of-append : (seat : ℕ) (xs ys : List Frame) → signs_of seat (xs ++ ys) ≡ signs_of seat xs ++ signs_of seat ys
 signs_of-append seat [] ys = refl
 signs_of-append seat (x ∷ xs) ys =
@@ -132,6 +133,7 @@ signs_of-append seat (x ∷ xs) ys =
     ap (λ (rest : List (Option ℕ)). own ++ rest) (signs_of-append seat xs ys) ∙ sym (append_assoc own (signs_of seat xs) (signs_of seat ys))
 
 module _ {S : Type 0} (held : S → Option (List ℕ)) (faults : S → ℕ) where
+  -- where nothing came nothing was written
   pub wrote-none : (v : Hand Saying) (sink : S) (out : Out) → Wrote held faults v v sink out sink out
   wrote-none v sink out = record {
     more = [];

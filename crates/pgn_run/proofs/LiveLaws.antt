@@ -76,6 +76,7 @@ pub data Grown : List (List Item) → List (List Item) → List (List Item) → 
   NoneGrown : Grown [] [] []
   OneGrown : (items more : List Item) (before behind after : List (List Item)) → Grown before behind after → Grown (items ∷ before) (more ∷ behind) ((items ++ more) ∷ after)
 
+-- the items of a session before, and then those behind them, are its items after
 pub grown-items : (n k : ℕ) (before behind after : List (List Item)) → Grown before behind after → items_of n (numbered k before) ++ items_of n (numbered k behind) ≡ items_of n (numbered k after)
 grown-items n k _ _ _ NoneGrown = refl
 grown-items n k _ _ _ (OneGrown items more before behind after h) = elim (eqb_tells k n) [
@@ -116,6 +117,7 @@ behinds [] after = []
 behinds (items ∷ before) [] = []
 behinds (items ∷ before) (all ∷ after) = drop (length items) all ∷ behinds before after
 
+-- what may end with a read has come to what it is by the items behind those that were there
 pub reads-grown : (before after : List (List Item)) → EachMayEndWithRead before after → Grown before (behinds before after) after
 reads-grown [] [] h = NoneGrown
 reads-grown [] (all ∷ after) h = absurd (omega (arith, h.count))
@@ -126,6 +128,7 @@ reads-grown (items ∷ before) (all ∷ after) h =
 
 -- Traces of sessions that are numbered.
 
+-- the records of such traces are those of their items
 pub traces-numbered : (k : ℕ) (traces : List Trace) → map (λ trace. trace.session) traces ≡ range_with_len k (length traces) → map log_of_trace traces ≡ numbered k (map (λ trace. trace.items) traces)
 traces-numbered k [] e = refl
 traces-numbered k (trace ∷ traces) e =
@@ -133,6 +136,7 @@ traces-numbered k (trace ∷ traces) e =
     let rest : map (λ (t : Trace). t.session) traces ≡ range_with_len (k + 1) (length traces) = cc in
     ap (λ (n : ℕ). came_from n trace.items ∷ map log_of_trace traces) first ∙ ap (λ (t : List Came). came_from k trace.items ∷ t) (traces-numbered (k + 1) traces rest)
 
+-- and what came last in each is what stands behind the items that were there
 pub lasts-numbered : (k : ℕ) (before : List (List Item)) (traces : List Trace) → map (λ trace. trace.session) traces ≡ range_with_len k (length traces)
     → lasts (map (λ items. length items) before) traces ≡ numbered k (behinds before (map (λ trace. trace.items) traces))
 lasts-numbered k [] traces e = refl
@@ -213,6 +217,7 @@ module _ {Q : Type 0} (scenario : Scenario) (shape : Shape) (sessions : List (Se
       ∙ grown-items n 1 before (behinds before after) after (reads-grown before after shown)
       ∙ ap (λ (cames : List Came). items_of n cames) (sym (traces-numbered 1 traces trace-numbers))
 
+  -- a text is that of a live run, where P holds of the last reads with the end behind them
   pub ends-over : (P : List ℕ → Type 0) → P (tagged scenario.sections (lasts (counts_of sessions) traces) ++ end_text scenario journal traces) → EndsOver scenario shape sessions P
   ends-over P output = record { journal = journal; traces = traces; last = lasts (counts_of sessions) traces; legal = legal; whole = all-shown; output = output }
 

@@ -306,6 +306,7 @@ module _ {P K : Type 0} (is_own : P → Type 0) (shape : Shape) (known : P → K
           told = record { turns = f.turns; plain = f.plain; asked = refl; trace = refl; told = sym (s.signed ∙ f.told ∙ ap (λ (n : ℕ). said n f.turns) (number s)) };
         }
 
+    -- a service that stops early has told of the first that its seats are asked, whether the frame that says so stands behind it or not
     pub stops : (frames more : List Frame) (fault : Option FrameFault) → FramesAre seats 0 bytes (frames ++ more) fault
         → ((k : ℕ) (c : Caller) → k < length callers → HasPutFirst most (signs_of (k + 1) frames) (put (k + 1) (knows (get_or callers k c).asks))) → (Q : List ℕ → Type 0)
         → Q (flat_map frame_bytes outs) ⊎ Q (flat_map frame_bytes outs ++ over_frame) → StopsServing seats bytes Q
@@ -380,6 +381,7 @@ module _ {P K : Type 0} (is_own : P → Type 0) (shape : Shape) (known : P → K
           × (((e : Desk P) → IsToldOf (1 + k) asks (get_or desks k e).session.items.items (signs_of (1 + k) outs))
           × ((e : Desk P) → (get_or desks k e).session.section ≡ seat_section seats (1 + k) (script_of asks)))
 
+      -- where each seat was asked all that these frames ask, what was told is told of a legal run
       pub runs : (frames : List Frame) → ((k : ℕ) (c : Caller) → k < length callers → HasPutAll most (signs_of (k + 1) frames) (put (k + 1) (knows (get_or callers k c).asks))) → (Q : List ℕ → Type 0) → Q (flat_map frame_bytes outs) → RunsSeats seats frames Q
       runs frames asked Q output = record {
         asks = all.0;
@@ -507,6 +509,7 @@ module _ {P K : Type 0} (is_own : P → Type 0) (shape : Shape) (known : P → K
   all-first : (fault : Option FrameFault) (Q : List ℕ → Type 0) → ServesAll seats bytes fault Q → ServesFirst seats bytes Q
   all-first fault Q h = record { frames = h.frames; more = []; fault = fault; are = subst (λ (fs : List Frame). FramesAre seats 0 bytes fs fault) (sym (append-nil h.frames)) h.are; served = h.served }
 
+  -- what stands written when a service ends, by its end
   pub ends : (so_far : Result Unit Failed) (told : Told so_far) (ran : Result Unit AllocError) (res : Result (Option FrameFault) NoFrame) → HasRead (seat_notes seats) (Some bytes) boxes callers res → OnOk ran (served ≡ Ok tt) → OnOk ran (HasGathered known desks)
       → EndsService seats (end_of so_far ran res) bytes (held sink) (held sink_now)
   ends (Err d) told (Err e) res read fine gathered = inr (at-stop (Err d) told res read (AppendsPrefix (held sink) (held sink_now)) told.writes)

@@ -46,7 +46,7 @@ pub record AreOver {P : Type 0} (is_own : P → Type 0) (shape : Shape) (known :
   pub own : All (λ desk. is_own desk.session.pass) desks
   pub order : map (λ desk. (known desk.session.pass).session) desks ≡ range_with_len 1 (length shape.seats)
 
--- they were
+-- they were gathered: together they fix one journal of so many transactions, and of each holds what does of a pass between calls
 pub record HasGathered {P : Type 0} (known : P → Known) (desks : List (Desk P)) : Type 0 where
   pub count : ℕ
   pub gathered : Gathered (map (λ desk. known desk.session.pass) desks) count

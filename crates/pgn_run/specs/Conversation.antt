@@ -30,6 +30,7 @@ use Rattle.pgn_wire.specs.Serving.{WroteWhole}
 abbrev pub session_section : List ScriptLine → Section
 session_section lines = record (wire_section lines) { note_lines = NOTE_LINES_MAX }
 
+-- the settings that a client has no words for, and what its lines are judged by
 abbrev pub wire_settings : Settings
 wire_settings = record { format = One; limit = PAGES_DEFAULT; patience = 1 }
 

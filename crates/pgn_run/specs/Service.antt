@@ -43,6 +43,7 @@ asks_at asks seat = get_or asks (seat - 1) []
 abbrev pub items_at : List Trace → ℕ → List Item
 items_at traces seat = get_or (map (λ trace. trace.items) traces) (seat - 1) []
 
+-- the settings of a service, which has no words for them
 abbrev pub service_settings : Settings
 service_settings = record { format = One; limit = PAGES_DEFAULT; patience = 1 }
 

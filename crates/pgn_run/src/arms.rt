@@ -160,7 +160,8 @@ fn serve_and_write<
     (out.so_far, served)
 }
 
-// Whether a service is over before its input: it has begun, and a desk was refused memory.
+// Whether the frame says that a service is over before its input: its desks have begun, and one was refused memory. Where they have not begun
+// nothing is written.
 fn is_over(begun: bool, served: Result<(), AllocError>) -> bool
     ensures { result ≡ true → OnOk served ⊥ }
 {
@@ -284,7 +285,8 @@ fn write_where_met<H: Hub + Sync, R: Wait, K: Sink>(
     );
 }
 
-// The desks serve, and then the end word is set and the writer's bell is rung, also where they have not begun.
+// The desks serve, and then the end word is set and the writer's bell is rung, also where they have not begun. The second answer is whether
+// they have.
 fn serve_and_end<P: PassView + Send + Drop, H: Hub<Pass = P> + Sync, R: Threads + Wait + Sync>(
     hall: &Hall<'_, R, H>,
     desks: &mut [Desk<P>],
@@ -304,7 +306,8 @@ fn serve_and_end<P: PassView + Send + Drop, H: Hub<Pass = P> + Sync, R: Threads 
     served
 }
 
-// The desks serve, where the writer and the reader are there.
+// The desks serve, where the writer and the reader are there. The second answer is whether they are. Else nobody was asked or told anything,
+// and the first is want of memory.
 #[tactic(auto, using(crate::proofs::ArmLaws::served_laws))]
 fn serve_where_met<P: PassView + Send + Drop, H: Hub<Pass = P> + Sync, R: Threads + Wait + Sync>(
     hall: &Hall<'_, R, H>,

@@ -9,6 +9,7 @@ use Rattle.pgn_turns.specs.Asks.{lines_for}
 use Rattle.pgn_turns.specs.Turns.{Telling, Turn, after_turn, asked_in, asks_of, first_telling, idle_state, items_in, items_of, said, signs_in, signs_said, telling_after, telling_of}
 use Rattle.pgn_turns.specs.Laws.{SaidStays, TellingWalks, TurnsGrow}
 
+-- what is said by turns, and by more turns behind them
 pub said-append : (seat : ℕ) (t : Telling) (turns more : List Turn) → signs_said seat t (turns ++ more) ≡ signs_said seat t turns ++ signs_said seat (fold telling_after t turns) more
 said-append seat t [] more = refl
 said-append seat t (turn ∷ turns) more =

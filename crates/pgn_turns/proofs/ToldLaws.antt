@@ -63,6 +63,7 @@ pub record FirstTurn (seat : ℕ) (s : State) (kept : Kept) (turns : List Turn) 
   pub asked : asks_of turns ≡ asked_in turn ++ asks_of back
   pub told : (let t : Telling = record { walk = s; kept = kept } in signs_said seat t turns ≡ signs_in seat t turn ++ signs_said seat (telling_after t turn) back)
 
+-- turns of one thing asked, whose items begin with its line, begin with the turn that asks for it
 pub first-turn : (seat : ℕ) (s : State) (kept : Kept) (turns : List Turn) (n : ℕ) (items : List Item) (ask : Ask) → TakesLine ask → All IsPlain turns → asks_of turns ≡ ask ∷ []
     → items_of turns ≡ Line n ∷ items → FirstTurn seat s kept turns n items
 first-turn seat s kept [] n items ask lined h asks e = let both : [] ≡ Line n ∷ items = e in absurd (cc)

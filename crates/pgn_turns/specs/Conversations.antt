@@ -165,6 +165,7 @@ quoted_listen = record { line = 1; text = codes "LISTEN \"Aaaaaaaaaaaaaaaaaaaaaa
 abbrev pub wide_listen : Asked
 wide_listen = record { line = 1; text = codes "LISTEN aaaaaaaaaaaaaaaaaaaaaaaaaaaaaaaaaaaaaaaaaaaaaaaaaaaaaaaaaaaaaa" ++ 226 ∷ 130 ∷ 172 ∷ []; command = command.Listen (codes "aaaaaaaaaaaaaaaaaaaaaaaaaaaaaaaaaaaaaaaaaaaaaaaaaaaaaaaaaaaaaa"); wording = wording.Plain }
 
+-- the items of each of the four
 abbrev pub listened_items : List Item
 listened_items = item.Line 1 ∷ item.Enlist 3 3 ∷ item.Reply tag.Listen None ∷ []
 

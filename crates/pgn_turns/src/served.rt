@@ -27,8 +27,8 @@ pub fn tell_answer(
     Ok(bytes.into_vec())
 }
 
-/// What the client of a seat is told of what is settled without the session, by the state of its block; and settles it. Where memory does
-/// not suffice the settings are as they were.
+/// What the client of a seat is told of what is settled without the session, by the state of its block; and settles it. The seat's number is
+/// for the row of `pg_backend_pid()`. Where memory does not suffice the settings are as they were.
 pub fn tell_settled(
     alloc: Global,
     seat: SessionNo,
