@@ -16,6 +16,7 @@ use Rattle.pgn_hub.specs.Examples.{two_seats, note_a, tx_3, got_a}
 use Rattle.pgn_words.specs.declared.view.View.{View}
 use Rattle.pgn_words.specs.declared.view.Verdict.{Verdict}
 use Rattle.pgn_words.specs.declared.view.Verdict.TheVariants.{Unseen, Decided}
+use Rattle.pgn_words.specs.declared.view.Listen.TheVariants.{Joining}
 use Rattle.pgn_words.specs.Examples.{listener, holder}
 use Rattle.pgn_wordhub.specs.Passes.{IsHubView}
 use Rattle.pgn_wordhub.specs.Walks.{StandsAt, IsCell, IsOnWay, Leads, HasWay, Walks, IsWalking, Turns, HasTurned, HasEntry, ArePartsOf, IsDueEntry, HasDueEntry, IsEntryAt, HasEntryAt}
@@ -36,6 +37,15 @@ no_unknown_mark h = let listens = h.rest.listens in absurd (cc)
 
 pub no_third : IsHubView two_seats third_pass → ⊥
 no_third h = h.seated.seat
+
+pub no_verdict : IsHubView two_seats (record first_pass { verdicts = Unseen ∷ [] }) → ⊥
+no_verdict h = let decided = h.rest.decided in absurd (cc)
+
+pub none_told : IsHubView two_seats (record first_pass { ended = Some 4 }) → ⊥
+none_told h = let told = h.rest.told in absurd (cc)
+
+pub none_joining : IsHubView two_seats (record first_pass { post = record first_pass.post { listen = Joining } }) → ⊥
+none_joining h = let settled = h.rest.settled in absurd (cc)
 
 -- no piece stands where there are no cells
 pub nothing_stands : (format : Format) (piece : Piece) → StandsAt format [] 0 piece → ⊥
@@ -237,7 +247,7 @@ unfolding image image_from
 at_the_head h = omega (arith, h)
 
 -- what no pass is, and no caller is told
-pub ruleset refused_passes = (no_holder, no_unknown_mark, no_third)
+pub ruleset refused_passes = (no_holder, no_unknown_mark, no_third, no_verdict, none_told, none_joining)
 
 -- what is no way through the cells, and no walk on it
 pub ruleset refused_ways = (no_far_number, no_other_cell, not_unfinished, not_left_out, not_past_the_head, no_way, no_walk, none_walking, no_early_end, no_stay, nothing_taken_back)

@@ -6,6 +6,8 @@ ghost use Rattle.pgn_base.specs.declared.format.Format.TheVariants.{One};
 ghost use Rattle.pgn_journal.specs.declared.tx.Tx.{Tx};
 ghost use Rattle.pgn_journal.specs.Pieces.{Piece, AFiller};
 ghost use Rattle.pgn_hub.specs.Examples.{two_seats, note_a, tx_3, got_a};
+ghost use Rattle.pgn_words.specs.declared.view.Verdict.TheVariants.{Unseen};
+ghost use Rattle.pgn_words.specs.declared.view.Listen.TheVariants.{Joining};
 ghost use Rattle.pgn_words.specs.Examples.{listener, holder};
 ghost use Rattle.pgn_wordhub.specs.Passes.{IsHubView};
 ghost use Rattle.pgn_wordhub.specs.Walks.{StandsAt, IsCell, IsOnWay, Leads, HasWay, Walks, IsWalking, Turns, HasTurned, HasEntry, ArePartsOf, IsDueEntry, HasDueEntry, IsEntryAt, HasEntryAt};
@@ -24,6 +26,10 @@ pub fn passes()
     // It is a listener, and its mark is not known.
     ensures no_mark { IsHubView two_seats listener → ⊥ }
     ensures no_seat { IsHubView two_seats third_pass → ⊥ }
+    // It has found out something about a seat, has told of the end of a transaction, or has begun to listen and is no listener yet.
+    ensures knows_of_a_seat { IsHubView two_seats (record first_pass { verdicts = Unseen ∷ [] }) → ⊥ }
+    ensures has_told { IsHubView two_seats (record first_pass { ended = Some 4 }) → ⊥ }
+    ensures still_joins { IsHubView two_seats (record first_pass { post = record first_pass.post { listen = Joining } }) → ⊥ }
 {}
 
 /// What is no way of a reader over the pieces that the head shows.
