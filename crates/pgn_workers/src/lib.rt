@@ -8,6 +8,7 @@
 //! That halves run side by side is not said by a contract: a body that has all take turns on one thread meets it too.
 #![tactic(auto)]
 
+mod crew;
 mod halves;
 mod job;
 mod meeting;

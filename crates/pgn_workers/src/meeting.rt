@@ -1,6 +1,5 @@
 use std::sync::Wait;
 use std::sync::atomic::{AtomicU64, Ordering};
-use std::thread;
 use std::time::Duration;
 
 // What is in the word: nothing yet; that the half on the new thread has come; or that the caller has gone on without it.
@@ -10,11 +9,10 @@ const HERE: u64 = 1;
 
 const GONE: u64 = 2;
 
-// How often the caller looks for the new thread: it gives way behind the first looks, and sleeps behind the others until the word changes
-// or a millisecond is over.
-const LOOKS_TO_MEET: u32 = 200;
-
-const LOOKS_BEFORE_SLEEP: u32 = 16;
+// How often the caller looks for the new thread. Behind each look it sleeps until the word changes, a millisecond at most behind the first
+// and twice as long behind each further one: a quarter of a second in all. So it never gives way to others while it waits, and where many
+// wait at once, they don't wake for nothing again and again.
+const LOOKS_TO_MEET: u32 = 8;
 
 /// A word on which two arms of some work meet before either begins: the one on a new thread, which calls `comes`, and the caller's, which
 /// calls `expects`. Where no thread could be had they don't meet, and neither begins: a join then runs the first arm behind the second, and
@@ -37,8 +35,8 @@ impl Meeting {
         takes(&self.word, HERE)
     }
 
-    /// The caller's arm, which waits for the other one, 200 looks long and at most a millisecond a look: whether it may begin, since that
-    /// one has come in time.
+    /// The caller's arm, which sleeps until the other one has come, for a quarter of a second at most: whether it may begin, since that one
+    /// has come in time.
     pub fn expects<R: Wait>(&self, rt: &R) -> bool {
         is_met(rt, &self.word) || !takes(&self.word, GONE)
     }
@@ -50,11 +48,7 @@ fn is_met<R: Wait>(rt: &R, word: &AtomicU64) -> bool {
         if word.load(Ordering::SeqCst) != NOBODY {
             return true;
         }
-        if looks < LOOKS_BEFORE_SLEEP {
-            thread::yield_now();
-        } else {
-            word.park_timeout(rt, NOBODY as u32, Duration::from_millis(1));
-        }
+        word.park_timeout(rt, NOBODY as u32, Duration::from_millis(1 << looks));
     }
     false
 }

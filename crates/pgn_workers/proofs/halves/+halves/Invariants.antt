@@ -1,8 +1,8 @@
 use Rattle.std.proofs.Common.{length, ◌+◌, ◌*◌}
 use Rattle.pgn_workers.proofs.halves.+halves.Given as goal
 
-abbrev pub decreases-run : goal.decreases-run
-decreases-run g l = 7 * length l.workers.now + 3
+abbrev pub decreases-run_crew : goal.decreases-run_crew
+decreases-run_crew g l = 7 * length l.workers.now + 3
 
 abbrev pub decreases-run_apart : goal.decreases-run_apart
 decreases-run_apart g l = 7 * length l.workers.now + 2
@@ -19,8 +19,5 @@ decreases-join_halves-join_mut+arg2 g l = 7 * length l.left.now + 5
 abbrev pub decreases-join_halves-join_mut+arg3 : goal.decreases-join_halves-join_mut+arg3
 decreases-join_halves-join_mut+arg3 g l = 7 * length l.right.now + 5
 
-abbrev pub decreases-arrive : goal.decreases-arrive
-decreases-arrive g l = 7 * length l.workers.now + 4
-
-abbrev pub decreases-expect : goal.decreases-expect
-decreases-expect g l = 7 * length l.workers.now + 4
+abbrev pub decreases-run_met : goal.decreases-run_met
+decreases-run_met g l = 7 * length l.workers.now + 4
