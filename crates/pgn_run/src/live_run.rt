@@ -125,10 +125,11 @@ fn finish_live<H: Hub + Drop, K: Sink>(
         return Status::NoMemory;
     };
     match finish_run(alloc, hub, sessions) {
-        Ok(played) => {
+        Ok((played, sections)) => {
             let status = write_end(scenario, told.as_slice(), &played, sink);
             drop(told);
             drop(played);
+            drop(sections);
             status
         }
         Err(_) => {

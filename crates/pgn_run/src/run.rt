@@ -366,8 +366,7 @@ fn drill<K: Sink + Send, R: Threads + Wait + Clock + Sync>(
     answer::<WordHub, K, R>(means, input, settings, shows, sink)
 }
 
-// Runs an input that was read, over a hub of this type, and lets the input go once it is a scenario. The scenario is not freed: the
-// program ends with this answer, and to free it piece by piece is no small part of a run.
+// Runs an input that was read, over a hub of this type, and lets the input go once it is a scenario.
 fn answer<H: Hub + Sync + Drop, K: Sink + Send, R: Threads + Wait + Clock + Sync>(
     means: &Means<'_, R>,
     input: Vec<u8>,
@@ -386,29 +385,25 @@ fn answer<H: Hub + Sync + Drop, K: Sink + Send, R: Threads + Wait + Clock + Sync
     let reading = read_scenario(means.alloc, means.hashes, input.as_slice());
     drop(input);
     match reading {
-        Ok(Ok(scenario)) => {
-            let status = play::<H, K, R>(means, &scenario, settings, shows, sink);
-            mem::forget(scenario);
-            status
-        }
+        Ok(Ok(scenario)) => play::<H, K, R>(means, scenario, settings, shows, sink),
         Ok(Err(fault)) => Status::BadScenario(fault),
         Err(AllocError) => Status::NoMemory,
     }
 }
 
-// Runs a scenario and shows what is asked for, at the end or as it comes.
+// Runs a scenario and shows what is asked for, at the end or as it comes. It is not freed, as `run_scenario` has it.
 fn play<H: Hub + Sync + Drop, K: Sink + Send, R: Threads + Wait + Clock + Sync>(
     means: &Means<'_, R>,
-    scenario: &Scenario,
+    scenario: Scenario,
     settings: RunSettings,
     shows: Shows,
     sink: &mut K,
 ) -> Status
-    requires sound { IsSound scenario.now }
+    requires sound { IsSound scenario }
     requires some_pages { PAGES_MIN ≤ settings.pages }
     requires few_pages { settings.pages ≤ PAGES_MAX }
     requires patient { 1 ≤ settings.patience }
-    ensures answers { (input : List ℕ) → ReadsAsScenario input (Ok scenario.now)
+    ensures answers { (input : List ℕ) → ReadsAsScenario input (Ok scenario)
         → Answers shows (settings_of settings) input (K.held sink.old) (K.held sink.new)
         (K.faults sink.old) (K.faults sink.new) result }
     ensures later { K.faults sink.old ≤ K.faults sink.new }
@@ -416,6 +411,10 @@ fn play<H: Hub + Sync + Drop, K: Sink + Send, R: Threads + Wait + Clock + Sync>(
 {
     match shows {
         Shows::AtEnd(print) => { run_scenario::<H, K, R>(means, scenario, settings, print, sink) }
-        Shows::Live => run_scenario_live::<H, K, R>(means, scenario, settings, sink),
+        Shows::Live => {
+            let status = run_scenario_live::<H, K, R>(means, &scenario, settings, sink);
+            mem::forget(scenario);
+            status
+        }
     }
 }

@@ -19,27 +19,28 @@ use std::thread::Threads;
 use std::time::Clock;
 
 /// Runs a scenario over a hub of this type with these settings, its sessions side by side, and writes what is asked for of the run to the
-/// sink. The run is not freed: the program ends with this answer, and to free it piece by piece is a tenth of it.
+/// sink. Neither the scenario nor the run is freed: the program ends with this answer, and to free them piece by piece is no small part
+/// of it.
 pub fn run_scenario<H: Hub + Sync + Drop, K: Sink, R: Threads + Wait + Clock + Sync>(
     means: &Means<'_, R>,
-    scenario: &Scenario,
+    scenario: Scenario,
     settings: RunSettings,
     print: Print,
     sink: &mut K,
 ) -> Status
-    requires sound { IsSound scenario.now }
+    requires sound { IsSound scenario }
     requires some_pages { PAGES_MIN ≤ settings.pages }
     requires few_pages { settings.pages ≤ PAGES_MAX }
     requires patient { 1 ≤ settings.patience }
     ensures done { result ≡ Status.Done
-        → RunsOver print scenario.now (settings_of settings)
+        → RunsOver print scenario (settings_of settings)
         (Appends (K.held sink.old) (K.held sink.new)) }
     ensures write_fault { result ≡ Status.WriteFault
         → Rose (K.faults sink.old) (K.faults sink.new) }
     ensures write_fault_where_due { K.faults sink.old < K.faults sink.new
         → result ≡ Status.WriteFault }
     ensures write_fault_writes_a_prefix { result ≡ Status.WriteFault
-        → RunsOver print scenario.now (settings_of settings)
+        → RunsOver print scenario (settings_of settings)
         (AppendsPrefix (K.held sink.old) (K.held sink.new)) }
     ensures no_memory_writes_nothing { result ≡ Status.NoMemory
         → K.held sink.new ≡ K.held sink.old }
@@ -56,9 +57,10 @@ pub fn run_scenario<H: Hub + Sync + Drop, K: Sink, R: Threads + Wait + Clock + S
         settings.patience,
         settings.format,
     ) {
-        Ok(played) => {
-            let status = write_run(scenario, print, &played, sink);
+        Ok((scenario, played)) => {
+            let status = write_run(&scenario, print, &played, sink);
             mem::forget(played);
+            mem::forget(scenario);
             status
         }
         Err(_) => Status::NoMemory,

@@ -29,12 +29,12 @@ mod waits;
 fn status_over<H: Hub + Sync + Drop, K: Sink, R: Threads + Wait + Clock + Sync>(
     rt: &R,
     alloc: Global,
-    scenario: &Scenario,
+    scenario: Scenario,
     patience: u64,
     print: Print,
     sink: &mut K,
 ) -> Status
-    requires sound { IsSound scenario.now }
+    requires sound { IsSound scenario }
     requires patient { 1 ≤ patience }
 {
     let means = Means {
@@ -60,24 +60,8 @@ fn shown_over<H: Hub + Sync + Drop, R: Threads + Wait + Clock + Sync>(
 ) -> Result<String, Fail>
     requires { 1 ≤ patience }
 {
-    let scenario = scenario_of(alloc, input)?;
-    let text = shown_of::<H, R>(rt, alloc, &scenario, patience, print);
-    drop(scenario);
-    text
-}
-
-// The same of this scenario.
-fn shown_of<H: Hub + Sync + Drop, R: Threads + Wait + Clock + Sync>(
-    rt: &R,
-    alloc: Global,
-    scenario: &Scenario,
-    patience: u64,
-    print: Print,
-) -> Result<String, Fail>
-    requires sound { IsSound scenario.now }
-    requires patient { 1 ≤ patience }
-{
     let mut sink = MemSink::new(alloc, 1 << 20, Vec::new(alloc), 1 << 20)?;
+    let scenario = scenario_of(alloc, input)?;
     let status = status_over::<H, MemSink, R>(rt, alloc, scenario, patience, print, &mut sink);
     told(alloc, status, sink.held())
 }

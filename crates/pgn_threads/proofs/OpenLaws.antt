@@ -1,8 +1,7 @@
 -- What the sessions of a sound scenario are given lets them run.
-use Rattle.std.proofs.Common.{◌≡◌, ℕ, zero, suc, ◌+◌, ◌<◌, ◌≤◌, List, [], ◌∷◌, ◌++◌, length, map, take, drop, get_or, append-nil, append_assoc, take_all, All, sym, ap, ◌∙◌, refl, subst, arith}
-use Rattle.std.proofs.lemmas.List.{length-map, length-drop, map-append}
-use Rattle.std.proofs.Math.Seq.{drop-cons}
-use Rattle.std.proofs.lemmas.List.Elements.{All-push, All-nil, All-cons, All-weaker}
+use Rattle.std.proofs.Common.{◌≡◌, ℕ, ◌+◌, ◌<◌, ◌≤◌, List, [], ◌∷◌, ◌++◌, length, map, drop, get_or, append-nil, append_assoc, All, sym, ap, ◌∙◌, refl, subst, arith}
+use Rattle.std.proofs.lemmas.List.{length-map, map-append}
+use Rattle.std.proofs.lemmas.List.Elements.{All-push, All-nil, All-cons, All-head, All-tail, All-same, All-weaker}
 use Rattle.pgn_hub.specs.declared.known.Known.{Known}
 use Rattle.pgn_language.specs.declared.scenario.Act.{Act}
 use Rattle.pgn_language.specs.declared.scenario.Act.TheVariants.{Run, Signal, Await, Quit}
@@ -19,7 +18,7 @@ use Rattle.pgn_session.specs.Whole.{HasRest}
 use Rattle.pgn_session.specs.Standing.{IsFlagBelow, IsServedBy}
 use Rattle.pgn_threads.specs.Laws.{NamesFlagsBelow}
 use Rattle.pgn_session.specs.Runs.{Script, script_of}
-use Rattle.pgn_threads.specs.Opened.{seat_for, opened_for, script_for, HaveOpened}
+use Rattle.pgn_threads.specs.Opened.{seat_for, opened_for, script_for, HaveOpened, IsFit}
 
 -- the passes as they are opened are those of the sections
 pub opened-in_order : (n : ℕ) (sections : List Section) → AreNumbered n sections → opened_passes n (map seat_for sections) ≡ map opened_for sections
@@ -59,63 +58,82 @@ all-served shape plan scenario first count ends sound = λ k d lt.
     let below : (get_or scenario.sections k d).no < 1 + length scenario.sections = numbered-below 1 scenario.sections sound.numbered k d lt in
     section-served shape plan (length scenario.flags) (get_or scenario.sections k d) first ends (omega (arith, below, count)) (sound.sections k d lt)
 
+-- a session can be made for each section of a sound scenario
+pub all-fit : (scenario : Scenario) → IsSound scenario → All IsFit scenario.sections
+all-fit scenario sound = λ k d lt. record { quits_last = (sound.sections k d lt).quits_last; counted = omega (arith, (sound.sections k d lt).counted) }
+
 -- the flags that the scripts name are below the end flags
 pub all-named : (plan : FlagPlan) (scenario : Scenario) → plan.first_end ≡ length scenario.flags → IsSound scenario → All (NamesFlagsBelow plan.first_end) scenario.sections
 all-named plan scenario first sound = λ k d lt.
     subst (λ (n : ℕ). NamesFlagsBelow n (get_or scenario.sections k d)) (sym first) (sound.sections k d lt).flags_known
 
+-- a list of no elements is empty
+pub none-left : {X : Type 0} (xs : List X) → length xs ≡ 0 → xs ≡ []
+none-left [] e = refl
+none-left (x ∷ xs) e = absurd (omega (arith, e))
+
 -- sessions are made one after another
-module _ {P : Type 0} (known : P → Known) (plan : FlagPlan) (patience : ℕ) (sections : List Section) (all : List P) where
-  -- it is that of the next section
-  next-pass : (left : List P) (sessions : List (Session P)) (i : ℕ) (d : Section) (pass : P) (rest : List P) → i < length sections → left ≡ pass ∷ rest → HaveOpened known plan patience sections all left sessions i
-      → map known (pass ∷ rest) ≡ map opened_for (get_or sections i d ∷ drop (suc i) sections)
-  next-pass left sessions i d pass rest lt e h =
-      ap (λ (ps : List P). map known ps) (sym e) ∙ h.rest ∙ ap (λ (ss : List Section). map opened_for ss) (drop-cons sections i d lt)
-
-  -- the next pass is that of the next section
-  pub is-opened : (left : List P) (sessions : List (Session P)) (i : ℕ) (d : Section) (pass : P) (rest : List P) → i < length sections → left ≡ pass ∷ rest → HaveOpened known plan patience sections all left sessions i
-      → known pass ≡ opened_for (get_or sections i d)
-  is-opened left sessions i d pass rest lt e h = ap (λ (ks : List Known). get_or ks 0 (known pass)) (next-pass left sessions i d pass rest lt e h)
-
-  -- a session more was made, for the next section and with the next pass
-  pub one-opened : (left : List P) (sessions : List (Session P)) (i : ℕ) (d : Section) (pass : P) (rest : List P) (s : Session P) → i < length sections → left ≡ pass ∷ rest
-      → HaveOpened known plan patience sections all left sessions i → s.pass ≡ pass → script_of s ≡ script_for plan patience (get_or sections i d) → ((shape : Shape) → HasRest shape known s)
-      → HaveOpened known plan patience sections all rest (sessions ++ s ∷ []) (i + 1)
-  one-opened left sessions i d pass rest s lt e h is script rested = record {
-    whole =
-        ap (λ (ps : List P). ps ++ rest) (map-append (λ (t : Session P). t.pass) sessions (s ∷ []))
-        ∙ append_assoc (map (λ (t : Session P). t.pass) sessions) (s.pass ∷ []) rest
-        ∙ ap (λ (p : P). map (λ (t : Session P). t.pass) sessions ++ p ∷ rest) is
-        ∙ ap (λ (ps : List P). map (λ (t : Session P). t.pass) sessions ++ ps) (sym e) ∙ h.whole;
-    rest = let next : suc i ≡ i + 1 = omega arith in ap (λ (ks : List Known). drop 1 ks) (next-pass left sessions i d pass rest lt e h) ∙ ap (λ (n : ℕ). map opened_for (drop n sections)) next;
-    scripts =
-        map-append (λ (t : Session P). script_of t) sessions (s ∷ [])
-        ∙ ap (λ (script : Script). map (λ (t : Session P). script_of t) sessions ++ script ∷ []) script
-        ∙ ap (λ (scripts : List Script). scripts ++ script_for plan patience (get_or sections i d) ∷ []) h.scripts
-        ∙ sym (map-append (script_for plan patience) (take i sections) (get_or sections i d ∷ []))
-        ∙ ap (λ (ss : List Section). map (script_for plan patience) ss) (sym (take-more sections i d lt));
-    rested = λ shape. All-push (HasRest shape known) sessions s (h.rested shape) (rested shape);
+module _ {P : Type 0} (known : P → Known) (plan : FlagPlan) (patience : ℕ) (sections : List Section) (passes : List P) where
+  -- at first there are none
+  pub none-opened : (left : List Section) (over : List P) (sessions : List (Session P)) → left ≡ sections → over ≡ passes → sessions ≡ [] → All IsFit sections → map known passes ≡ map opened_for sections
+      → HaveOpened known plan patience sections [] left passes over sessions
+  none-opened left over sessions all all_passes none fit opened = record {
+    cut = all;
+    fit = All-same IsFit left sections all fit;
+    whole = ap (λ (ss : List (Session P)). map (λ (s : Session P). s.pass) ss ++ over) none ∙ all_passes;
+    rest = ap (λ (ps : List P). map known ps) all_passes ∙ opened ∙ ap (λ (ss : List Section). map opened_for ss) (sym all);
+    scripts = ap (λ (ss : List (Session P)). map (λ (s : Session P). script_of s) ss) none;
+    rested = λ shape. subst (λ (ss : List (Session P)). All (HasRest shape known) ss) (sym none) (All-nil (HasRest shape known));
   }
-    where
-      take-more : (ss : List Section) (k : ℕ) (e : Section) → k < length ss → take (k + 1) ss ≡ take k ss ++ get_or ss k e ∷ []
-      take-more [] k e less = absurd (omega (arith, less))
-      take-more (t ∷ ss) zero e less = refl
-      take-more (t ∷ ss) (suc k) e less =
-          let next : suc k + 1 ≡ suc (k + 1) = omega arith in
-          ap (λ (n : ℕ). take n (t ∷ ss)) next ∙ ap (λ (us : List Section). t ∷ us) (take-more ss k e (omega (arith, less)))
 
-  -- once there is a session for each section, each pass is in one, in order
-  pub all-opened : (left : List P) (sessions : List (Session P)) (i : ℕ) → length sections ≤ i → HaveOpened known plan patience sections all left sessions i → map (λ s. s.pass) sessions ≡ all
-  all-opened left sessions i past h =
-      sym (append-nil (map (λ (s : Session P). s.pass) sessions)) ∙ ap (λ (ps : List P). map (λ (s : Session P). s.pass) sessions ++ ps) (sym (none left (omega (arith, past, ap (λ (ks : List Known). length ks) h.rest, length-map left known, length-map (drop i sections) opened_for, length-drop i sections)))) ∙ h.whole
-    where
-      none : (ps : List P) → length ps ≡ 0 → ps ≡ []
-      none [] e = refl
-      none (p ∷ ps) e = absurd (omega (arith, e))
+  module _ (done left : List Section) (over : List P) (sessions : List (Session P)) (section : Section) (more : List Section) (next : left ≡ section ∷ more) (h : HaveOpened known plan patience sections done left passes over sessions) where
+    -- a session can be made for the next section
+    pub is-fit : IsFit section
+    is-fit = All-head IsFit section more (subst (λ (ss : List Section). All IsFit ss) next h.fit)
 
-  -- and each has its section's script
-  pub all-scripts : (left : List P) (sessions : List (Session P)) (i : ℕ) → length sections ≤ i → HaveOpened known plan patience sections all left sessions i → map script_of sessions ≡ map (script_for plan patience) sections
-  all-scripts left sessions i past h = h.scripts ∙ ap (λ (ss : List Section). map (script_for plan patience) ss) (take_all i sections past)
+    rest-next : map known over ≡ opened_for section ∷ map opened_for more
+    rest-next = h.rest ∙ ap (λ (ss : List Section). map opened_for ss) next
+
+    -- there is a pass for it
+    pub some-pass : over ≡ [] → ⊥
+    some-pass none = let e : [] ≡ opened_for section ∷ map opened_for more = ap (λ (ps : List P). map known ps) (sym none) ∙ rest-next in cc
+
+    -- which is as it was opened for it
+    pub is-opened : (pass : P) (rest : List P) → over ≡ pass ∷ rest → known pass ≡ opened_for section
+    is-opened pass rest e = ap (λ (ks : List Known). get_or ks 0 (known pass)) (ap (λ (ps : List P). map known ps) (sym e) ∙ rest-next)
+
+    -- a session more was made, for the next section and with the next pass
+    pub one-opened : (pass : P) (rest : List P) (s : Session P) → over ≡ pass ∷ rest → s.pass ≡ pass → script_of s ≡ script_for plan patience section → ((shape : Shape) → HasRest shape known s)
+        → HaveOpened known plan patience sections (done ++ section ∷ []) more passes rest (sessions ++ s ∷ [])
+    one-opened pass rest s e is script rested = record {
+      cut = append_assoc done (section ∷ []) more ∙ ap (λ (ss : List Section). done ++ ss) (sym next) ∙ h.cut;
+      fit = All-tail IsFit section more (subst (λ (ss : List Section). All IsFit ss) next h.fit);
+      whole =
+          ap (λ (ps : List P). ps ++ rest) (map-append (λ (t : Session P). t.pass) sessions (s ∷ []))
+          ∙ append_assoc (map (λ (t : Session P). t.pass) sessions) (s.pass ∷ []) rest
+          ∙ ap (λ (p : P). map (λ (t : Session P). t.pass) sessions ++ p ∷ rest) is
+          ∙ ap (λ (ps : List P). map (λ (t : Session P). t.pass) sessions ++ ps) (sym e) ∙ h.whole;
+      rest = ap (λ (ks : List Known). drop 1 ks) (ap (λ (ps : List P). map known ps) (sym e) ∙ rest-next);
+      scripts =
+          map-append (λ (t : Session P). script_of t) sessions (s ∷ [])
+          ∙ ap (λ (x : Script). map (λ (t : Session P). script_of t) sessions ++ x ∷ []) script
+          ∙ ap (λ (scripts : List Script). scripts ++ script_for plan patience section ∷ []) h.scripts
+          ∙ sym (map-append (script_for plan patience) done (section ∷ []));
+      rested = λ shape. All-push (HasRest shape known) sessions s (h.rested shape) (rested shape);
+    }
+
+  module _ (done left : List Section) (over : List P) (sessions : List (Session P)) (none : left ≡ []) (h : HaveOpened known plan patience sections done left passes over sessions) where
+    -- once there is a session for each section, each pass is in one, in order
+    pub all-opened : map (λ s. s.pass) sessions ≡ passes
+    all-opened =
+        let rest : map known over ≡ [] = h.rest ∙ ap (λ (ss : List Section). map opened_for ss) none in
+        sym (append-nil (map (λ (s : Session P). s.pass) sessions))
+        ∙ ap (λ (ps : List P). map (λ (s : Session P). s.pass) sessions ++ ps) (sym (none-left over (omega (arith, ap (λ (ks : List Known). length ks) rest, length-map over known))))
+        ∙ h.whole
+
+    -- and each has its section's script
+    pub all-scripts : map script_of sessions ≡ map (script_for plan patience) sections
+    all-scripts = h.scripts ∙ ap (λ (ss : List Section). map (script_for plan patience) ss) (sym (append-nil done) ∙ ap (λ (ss : List Section). done ++ ss) (sym none) ∙ h.cut)
 
 -- what a session was given, by its parts
 pub same-script : {P : Type 0} (s : Session P) (plan : FlagPlan) (patience : ℕ) (section : Section) → s.section ≡ section → s.plan ≡ plan → s.patience ≡ patience → script_of s ≡ script_for plan patience section

@@ -1,5 +1,5 @@
 -- From whole sessions that are over to a legal run.
-use Rattle.std.proofs.Common.{◌≡◌, ℕ, suc, ◌+◌, List, [], ◌∷◌, length, map, get_or, All, Result, Ok, Err, IfOk, sym, ap, ◌∙◌, refl, subst, arith}
+use Rattle.std.proofs.Common.{◌≡◌, ℕ, suc, ◌+◌, List, [], ◌∷◌, length, map, get_or, All, sym, ap, ◌∙◌, refl, subst, arith}
 use Rattle.std.specs.List.{range_with_len}
 use Rattle.std.proofs.lemmas.List.Elements.{All-map, All-same}
 use Rattle.pgn_journal.specs.declared.tx.Tx.{Tx}
@@ -109,17 +109,19 @@ same-numbers {P} known (s ∷ sessions) h =
     ap (λ (n : ℕ). n ∷ map (λ (t : Session P). (known t.pass).session) sessions) (h 0 s (omega arith))
     ∙ ap (λ (ns : List ℕ). s.section.no ∷ ns) (same-numbers known sessions (λ k d lt. h (suc k) d (omega (arith, lt))))
 
--- what follows of a value, if there is one
-pub if-ok : {T E : Type 0} (r : Result T E) (A B : T → Type 0) → ((x : T) → A x → B x) → IfOk r A → IfOk r B
-if-ok (Ok x) A B f h = f x h
-if-ok (Err e) A B f h = tt
-
 -- the numbers of sessions with these scripts
 pub numbers-same : {P : Type 0} (sessions others : List (Session P)) → map script_of sessions ≡ map script_of others → map (λ s. s.section.no) sessions ≡ map (λ s. s.section.no) others
 numbers-same {P} sessions others e =
     sym (map-twice (λ (script : Script). script.section.no) (λ (s : Session P). script_of s) sessions)
     ∙ ap (λ (scripts : List Script). map (λ (script : Script). script.section.no) scripts) e
     ∙ map-twice (λ (script : Script). script.section.no) (λ (s : Session P). script_of s) others
+
+-- and their sections
+pub sections-same : {P : Type 0} (sessions others : List (Session P)) → map script_of sessions ≡ map script_of others → map (λ s. s.section) sessions ≡ map (λ s. s.section) others
+sections-same {P} sessions others e =
+    sym (map-twice (λ (script : Script). script.section) (λ (s : Session P). script_of s) sessions)
+    ∙ ap (λ (scripts : List Script). map (λ (script : Script). script.section) scripts) e
+    ∙ map-twice (λ (script : Script). script.section) (λ (s : Session P). script_of s) others
 
 -- the sessions of a scenario have its numbers
 pub numbers-opened : {P : Type 0} (scenario : Scenario) (plan : FlagPlan) (patience : ℕ) (sessions : List (Session P)) → IsSound scenario → map script_of sessions ≡ map (script_for plan patience) scenario.sections

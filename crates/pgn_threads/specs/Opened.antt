@@ -1,5 +1,5 @@
 -- What the sessions of a scenario are given: seats, passes and scripts.
-use Rattle.std.specs.Prelude.{◌≡◌, ℕ, ◌+◌, ◌≤◌, List, length, ◌++◌, map, take, drop, All}
+use Rattle.std.specs.Prelude.{◌≡◌, ℕ, ◌+◌, ◌≤◌, List, length, ◌++◌, map, All}
 use Rattle.pgn_hub.specs.declared.known.Known.{Known}
 use Rattle.pgn_base.specs.declared.format.Format.{Format}
 use Rattle.pgn_language.specs.declared.scenario.Scenario.{Scenario}
@@ -30,12 +30,18 @@ pub record IsFit (section : Section) : Type 0 where
   pub quits_last : QuitsLast section.lines
   pub counted : note_lines_of section.lines ≤ section.note_lines
 
--- sessions were made for the first sections, so many, and these passes are left
-pub record HaveOpened {P : Type 0} (known : P → Known) (plan : FlagPlan) (patience : ℕ) (sections : List Section) (all left : List P) (sessions : List (Session P)) (count : ℕ) : Type 0 where
-  pub whole : map (λ s. s.pass) sessions ++ left ≡ all
-  pub rest : map known left ≡ map opened_for (drop count sections)
-  pub scripts : map script_of sessions ≡ map (script_for plan patience) (take count sections)
+-- sessions were made for the first sections, and these sections and passes are left
+pub record HaveOpened {P : Type 0} (known : P → Known) (plan : FlagPlan) (patience : ℕ) (sections done left : List Section) (passes over : List P) (sessions : List (Session P)) : Type 0 where
+  pub cut : done ++ left ≡ sections
+  pub fit : All IsFit left
+  pub whole : map (λ s. s.pass) sessions ++ over ≡ passes
+  pub rest : map known over ≡ map opened_for left
+  pub scripts : map script_of sessions ≡ map (script_for plan patience) done
   pub rested : (shape : Shape) → All (HasRest shape known) sessions
+
+-- the scenario of these sections and flags
+abbrev pub scenario_of : List Section → List (List ℕ) → Scenario
+scenario_of sections flags = record { sections = sections; flags = flags }
 
 -- the flags that the scripts name come first, and then an end flag for each session
 abbrev pub plan_for : Scenario → FlagPlan

@@ -5,10 +5,10 @@ ghost use Rattle.pgn_threads.specs.Parts.{part_of, trace_of};
 ghost use Rattle.pgn_session.specs.Runs.{script_of};
 ghost use Rattle.pgn_threads.specs.Opened.{opened_for, script_for, seat_for, IsFit};
 
-use pgn_base::{Copied, Seed};
+use pgn_base::Seed;
 use pgn_hub::{PassView, SeatSetup};
 use pgn_language::Section;
-use pgn_model::Trace;
+use pgn_model::{Items, Trace};
 use pgn_session::{FlagPlan, Session};
 use std::alloc::{AllocError, Global};
 
@@ -34,18 +34,19 @@ pub(crate) struct Shared {
     pub(crate) patience: u64,
 }
 
-/// A session for each section, before the first line of its script, with its pass as the hub was opened.
+/// A session for each section, which it takes, before the first line of its script, with its pass as the hub was opened.
 pub(crate) fn open_sessions<P: PassView + Send + Drop>(
     alloc: Global,
     passes: Vec<P>,
-    sections: &[Section],
+    sections: Vec<Section>,
     shared: Shared,
 ) -> Result<Vec<Session<P>>, AllocError>
-    requires opened { map P.known passes.items ≡ map opened_for sections.now }
-    requires fit { All IsFit sections.now }
+    requires opened { map P.known passes.items ≡ map opened_for sections.items }
+    requires fit { All IsFit sections.items }
     requires patient { 1 ≤ shared.patience }
     ensures passes { IfOk result (λ sessions. map (λ s. s.pass) sessions.items ≡ passes.items) }
-    ensures scripts { IfOk result (λ sessions. map script_of sessions.items ≡ map (script_for shared.plan shared.patience) sections.now) }
+    ensures scripts { IfOk result (λ sessions. map script_of sessions.items
+        ≡ map (script_for shared.plan shared.patience) sections.items) }
     ensures rested { IfOk result (λ sessions. (shape : Shape) → All (HasRest shape P.known) sessions.items) }
 {
     let mut sessions = Vec::with_capacity(alloc, sections.len())?;
@@ -54,7 +55,6 @@ pub(crate) fn open_sessions<P: PassView + Send + Drop>(
         let Some(pass) = passes.next() else {
             unreachable!();
         };
-        let section = section.copy(alloc)?;
         let Shared {
             seed,
             plan,
@@ -65,20 +65,50 @@ pub(crate) fn open_sessions<P: PassView + Send + Drop>(
     Ok(sessions)
 }
 
-/// The passes of sessions, and their traces.
+/// The passes of sessions, their traces, and their sections.
 pub(crate) fn logs<P: PassView + Send + Drop>(
     alloc: Global,
     sessions: Vec<Session<P>>,
-) -> Result<(Vec<P>, Vec<Trace>), AllocError>
+) -> Result<(Vec<P>, Vec<Trace>, Vec<Section>), AllocError>
     ensures passes { IfOk result (λ logs. logs.0.items ≡ map (λ s. s.pass) sessions.items) }
     ensures traces { IfOk result (λ logs. logs.1.items ≡ map (λ s. trace_of (part_of P.known s)) sessions.items) }
+    ensures sections { IfOk result (λ logs. logs.2.items ≡ map (λ s. s.section) sessions.items) }
 {
     let mut passes = Vec::with_capacity(alloc, sessions.len())?;
     let mut traces = Vec::with_capacity(alloc, sessions.len())?;
+    let mut sections = Vec::with_capacity(alloc, sessions.len())?;
     for session in sessions {
-        let (pass, trace) = session.into_log();
+        let (pass, trace, section) = log_of(session);
         passes.push(pass)?;
         traces.push(trace)?;
+        sections.push(section)?;
     }
-    Ok((passes, traces))
+    Ok((passes, traces, sections))
+}
+
+// The pass of a session, its trace, and its section.
+fn log_of<P: PassView + Send + Drop>(session: Session<P>) -> (P, Trace, Section)
+    ensures pass { result.0 ≡ session.pass }
+    ensures trace { result.1 ≡ trace_of (part_of P.known session) }
+    ensures section { result.2 ≡ session.section }
+{
+    let Session {
+        pass,
+        section,
+        block,
+        set,
+        items,
+        doing,
+        ..
+    } = session;
+    let trace = Trace {
+        session: section.no,
+        db: section.db,
+        items: Items::from_items(items),
+        last: pass.mark(),
+    };
+    drop(block);
+    drop(set);
+    drop(doing);
+    (pass, trace, section)
 }

@@ -8,14 +8,14 @@ ghost use Rattle.pgn_model.specs.Legal.{Legal};
 ghost use Rattle.pgn_hub.specs.Passes.{IsWithin};
 ghost use Rattle.pgn_session.specs.Runs.{IsReady, IsOver, script_of, shown_of};
 ghost use Rattle.pgn_threads.specs.Drain.{EachMayEndWithRead};
-ghost use Rattle.pgn_threads.specs.Opened.{AreOpenedFor, plan_for, script_for, shape_for};
+ghost use Rattle.pgn_threads.specs.Opened.{AreOpenedFor, plan_for, scenario_of, script_for, shape_for};
 
 use crate::opening::{Shared, logs, open_sessions, seats_for};
 use crate::{drain, run_sessions};
-use pgn_base::{Format, Seed};
+use pgn_base::{Copied, Format, Names, Seed};
 use pgn_hub::{Hub, Setup};
 use pgn_journal::Tx;
-use pgn_language::Scenario;
+use pgn_language::{Scenario, Sections};
 use pgn_merge::merge;
 use pgn_model::Trace;
 use pgn_session::{FlagPlan, Session};
@@ -33,25 +33,36 @@ pub struct Run {
 
 /// Runs a scenario over a hub of this type, which it opens with a limit of so many pages and entries of this format: its sessions run
 /// side by side, as `run_sessions` has it, and an await takes so many looks, made or slept over. Hashes are made with this seed. The
-/// error is that memory did not suffice.
+/// sessions take the scripts, and the scenario is given back. The error is that memory did not suffice; the scenario is then dropped.
 pub fn run_on_hub<H: Hub + Sync + Drop, R: Threads + Wait + Clock + Sync>(
     rt: &R,
     alloc: Global,
     seed: Seed,
-    scenario: &Scenario,
+    scenario: Scenario,
     pages: u32,
     patience: u64,
     format: Format,
-) -> Result<Run, AllocError>
-    requires sound { IsSound scenario.now }
+) -> Result<(Scenario, Run), AllocError>
+    requires sound { IsSound scenario }
     requires some_pages { PAGES_MIN ≤ pages }
     requires few_pages { pages ≤ PAGES_MAX }
     requires patient { 1 ≤ patience }
-    ensures legal { IfOk result (λ run. Legal scenario.now (record { format = format; limit = pages; patience = patience }) run.journal.items run.traces.items) }
+    ensures back { IfOk result (λ played. played.0 ≡ scenario) }
+    ensures legal { IfOk result (λ played. Legal scenario
+        (record { format = format; limit = pages; patience = patience })
+        played.1.journal.items played.1.traces.items) }
 {
-    let (hub, mut sessions) = open_on_hub::<H>(alloc, seed, scenario, pages, patience, format)?;
+    let Scenario { sections, flags } = scenario;
+    let opening = Opening {
+        seed,
+        pages,
+        patience,
+        format,
+    };
+    let (hub, mut sessions) = open_with::<H>(alloc, opening, sections, &flags)?;
     run_sessions(rt, alloc, &hub, sessions.as_mut_slice())?;
-    finish_run(alloc, hub, sessions)
+    let (run, sections) = finish_run(alloc, hub, sessions)?;
+    Ok((Scenario { sections, flags }, run))
 }
 
 /// Opens a hub of this type for a scenario, with a limit of so many pages and entries of this format, and makes a session for each
@@ -72,43 +83,88 @@ pub fn open_on_hub<H: Hub + Drop>(
     ensures ready { IfOk result (λ opened. All (IsReady (H.is_pass opened.0) (H.shape opened.0) H.Pass.known) opened.1.items) }
     ensures scripts { IfOk result (λ opened. map script_of opened.1.items ≡ map (script_for (plan_for scenario.now) patience) scenario.now.sections) }
 {
-    let sections = scenario.sections.as_slice();
-    let plan = FlagPlan {
-        first_end: scenario.flags.as_slice().len() as u32,
-        sessions: sections.len() as u32,
+    let sections = scenario.sections.copy(alloc)?;
+    let opening = Opening {
+        seed,
+        pages,
+        patience,
+        format,
     };
-    let seats = seats_for(alloc, sections)?;
-    let setup = Setup::new(pages, plan.first_end + plan.sessions, seats, format);
+    open_with::<H>(alloc, opening, sections, &scenario.flags)
+}
+
+// What a hub is opened with and its sessions share: the seed of their hashes, the limit of the queue, their patience, and the format
+// of the entries.
+#[derive(Clone, Copy)]
+struct Opening {
+    seed: Seed,
+    pages: u32,
+    patience: u64,
+    format: Format,
+}
+
+// Opens a hub for the scenario of these sections and flags, and makes its sessions, as `open_on_hub` has it. They take the sections.
+fn open_with<H: Hub + Drop>(
+    alloc: Global,
+    opening: Opening,
+    sections: Sections,
+    flags: &Names,
+) -> Result<(H, Vec<Session<H::Pass>>), AllocError>
+    requires sound { IsSound (scenario_of sections flags.now) }
+    requires some_pages { PAGES_MIN ≤ opening.pages }
+    requires few_pages { opening.pages ≤ PAGES_MAX }
+    requires patient { 1 ≤ opening.patience }
+    ensures shape { IfOk result (λ opened. H.shape opened.0
+        ≡ shape_for (scenario_of sections flags.now) opening.pages opening.format) }
+    ensures ready { IfOk result (λ opened.
+        All (IsReady (H.is_pass opened.0) (H.shape opened.0) H.Pass.known) opened.1.items) }
+    ensures scripts { IfOk result (λ opened. map script_of opened.1.items
+        ≡ map (script_for (plan_for (scenario_of sections flags.now)) opening.patience) sections) }
+{
+    let scripts = sections.as_slice();
+    let plan = FlagPlan {
+        first_end: flags.as_slice().len() as u32,
+        sessions: scripts.len() as u32,
+    };
+    let seats = seats_for(alloc, scripts)?;
+    let setup = Setup::new(
+        opening.pages,
+        plan.first_end + plan.sessions,
+        seats,
+        opening.format,
+    );
     let (hub, passes) = H::open(alloc, setup)?;
     let shared = Shared {
-        seed,
+        seed: opening.seed,
         plan,
-        patience,
+        patience: opening.patience,
     };
-    let sessions = open_sessions(alloc, passes, sections, shared)?;
+    let sessions = open_sessions(alloc, passes, sections.into_items(), shared)?;
     Ok((hub, sessions))
 }
 
-/// What sessions that are over have come to: they are drained, their passes are gathered and their traces merged. The sessions are all
-/// those of the hub, in order. The error is that memory did not suffice.
+/// What sessions that are over have come to, and their sections: they are drained, their passes are gathered and their traces merged.
+/// The sessions are all those of the hub, in order. The error is that memory did not suffice.
 pub fn finish_run<H: Hub + Drop>(
     alloc: Global,
     hub: H,
     mut sessions: Vec<Session<H::Pass>>,
-) -> Result<Run, AllocError>
+) -> Result<(Run, Sections), AllocError>
     requires over { All (IsOver (H.is_pass hub) (H.shape hub) H.Pass.known) sessions.items }
     requires all { map (λ s. s.section.no) sessions.items ≡ range_with_len 1 (length (H.shape hub).seats) }
-    ensures legal { IfOk result (λ run. (scenario : Scenario) (pages patience : ℕ) (format : Format) → AreOpenedFor scenario pages patience format (H.shape hub) sessions.items
-        → Legal scenario (record { format = format; limit = pages; patience = patience }) run.journal.items run.traces.items) }
-    ensures sessions { IfOk result (λ run. map (λ trace. trace.session) run.traces.items ≡ map (λ s. s.section.no) sessions.items) }
-    ensures shown { IfOk result (λ run. EachMayEndWithRead (map shown_of sessions.items) (map (λ trace. trace.items) run.traces.items)) }
+    ensures legal { IfOk result (λ ended. (scenario : Scenario) (pages patience : ℕ) (format : Format) → AreOpenedFor scenario pages patience format (H.shape hub) sessions.items
+        → Legal scenario (record { format = format; limit = pages; patience = patience }) ended.0.journal.items ended.0.traces.items) }
+    ensures sessions { IfOk result (λ ended. map (λ trace. trace.session) ended.0.traces.items ≡ map (λ s. s.section.no) sessions.items) }
+    ensures shown { IfOk result (λ ended. EachMayEndWithRead (map shown_of sessions.items) (map (λ trace. trace.items) ended.0.traces.items)) }
+    ensures sections { IfOk result (λ ended. ended.1 ≡ map (λ s. s.section) sessions.items) }
 {
     drain(alloc, &hub, sessions.as_mut_slice())?;
-    let (passes, traces) = logs(alloc, sessions)?;
+    let (passes, traces, sections) = logs(alloc, sessions)?;
     are_within(&hub, passes.as_slice());
     let _roll = hub.gather(passes);
     let journal = merge(alloc, traces.as_slice())?;
-    Ok(Run { journal, traces })
+    let sections = Sections::from_items(sections);
+    Ok((Run { journal, traces }, sections))
 }
 
 // What holds of each pass of a hub between calls.

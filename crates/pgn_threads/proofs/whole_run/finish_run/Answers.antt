@@ -11,7 +11,7 @@ use Rattle.pgn_threads.specs.Drain.{EachMayEndWithRead}
 use Rattle.pgn_threads.specs.Opened.{plan_for}
 use Rattle.pgn_threads.specs.Parts.{part_of, settings_of, trace_of}
 use Rattle.pgn_threads.proofs.ListLemmas.{written-back, same-count}
-use Rattle.pgn_threads.proofs.WholeLaws.{all-own, map-twice, merged-legal, numbers-same, passes-in_order, passes-same, sessions-legal}
+use Rattle.pgn_threads.proofs.WholeLaws.{all-own, map-twice, merged-legal, numbers-same, passes-in_order, passes-same, sections-same, sessions-legal}
 use Rattle.pgn_threads.proofs.whole_run.finish_run.Goals as goal
 
 pub drain-requires-clause-over : goal.drain-requires-clause-over
@@ -84,3 +84,12 @@ returns-clause-sessions g c =
     ap (λ (all : List Trace). map (λ (trace : Trace). trace.session) all) traces
     ∙ map-twice (λ (trace : Trace). trace.session) (λ (s : Session g.row.H-Pass.Denot). trace_of (part_of g.H.Pass.PassView.known s)) new
     ∙ numbers-same new c.args.sessions.items scripts
+
+pub returns-clause-sections : goal.returns-clause-sections
+returns-clause-sections g c =
+    let new : List (Session g.row.H-Pass.Denot) = c.drain.new.sessions in
+    let count = same-count script_of new c.as_mut_slice.result.now c.in_ok-drain.ensures.scripts ∙ c.as_mut_slice.ensures.len in
+    let back = written-back new (drop (length new) c.args.sessions.items) c.args.sessions.len (sym count) in
+    let scripts = c.in_ok-drain.ensures.scripts ∙ ap (λ (sessions : List (Session g.row.H-Pass.Denot)). map script_of sessions) c.as_mut_slice.ensures.value in
+    c.from_items-sections.ensures ∙ c.in_ok-passes.ensures.sections ∙ ap (λ (ss : List (Session g.row.H-Pass.Denot)). map (λ (s : Session g.row.H-Pass.Denot). s.section) ss) back
+    ∙ sections-same new c.args.sessions.items scripts

@@ -4,11 +4,12 @@ use Rattle.std.proofs.lemmas.List.{length-map}
 use Rattle.std.proofs.lemmas.List.Elements.{All-same}
 use Rattle.pgn_hub.specs.declared.setup.SeatSetup.{SeatSetup}
 use Rattle.pgn_hub.specs.Shape.{Shape}
+use Rattle.pgn_language.specs.declared.scenario.Section.{Section}
 use Rattle.pgn_session.specs.declared.session.Session.{Session}
 use Rattle.pgn_session.specs.Runs.{IsOver, IsReady, script_of}
-use Rattle.pgn_threads.specs.Opened.{plan_for, seat_for}
+use Rattle.pgn_threads.specs.Opened.{plan_for, scenario_of, seat_for}
 use Rattle.pgn_threads.proofs.ListLemmas.{written-back, same-count}
-use Rattle.pgn_threads.proofs.WholeLaws.{if-ok, numbers-opened}
+use Rattle.pgn_threads.proofs.WholeLaws.{numbers-opened, sections-are}
 use Rattle.pgn_threads.proofs.whole_run.run_on_hub.Goals as goal
 
 pub run_sessions-requires-clause-ready : goal.run_sessions-requires-clause-ready
@@ -30,18 +31,24 @@ finish_run-requires-clause-all g c κs within =
     let scripts = c.run_sessions.ensures.scripts ∙ ap (λ (sessions : List (Session g.row.H-Pass.Denot)). map script_of sessions) c.as_mut_slice.ensures.value ∙ c.in_ok-hub.ensures.scripts in
     let seats = ap (λ (shape : Shape). shape.seats) c.in_ok-hub.ensures.shape in
     ap (λ (sessions : List (Session g.row.H-Pass.Denot)). map (λ (s : Session g.row.H-Pass.Denot). s.section.no) sessions) back
-    ∙ numbers-opened c.args.scenario.now (plan_for c.args.scenario.now) c.args.patience new c.requires.sound scripts
-    ∙ ap (λ n. range_with_len 1 n) (sym (ap (λ (s : List SeatSetup). length s) seats ∙ length-map c.args.scenario.now.sections seat_for))
+    ∙ numbers-opened c.args.scenario (plan_for c.args.scenario) c.args.patience new c.requires.sound scripts
+    ∙ ap (λ n. range_with_len 1 n) (sym (ap (λ (s : List SeatSetup). length s) seats ∙ length-map c.args.scenario.sections seat_for))
 
-pub returns : goal.returns
-returns g c = record {
-  legal =
-      let new : List (Session g.row.H-Pass.Denot) = c.run_sessions.new.sessions in
-      let count = same-count script_of new c.as_mut_slice.result.now c.run_sessions.ensures.scripts ∙ c.as_mut_slice.ensures.len in
-      let back = written-back new (drop (length new) c.in_ok-hub.sessions.items) c.in_ok-hub.sessions.len (sym count) in
-      let scripts = c.run_sessions.ensures.scripts ∙ ap (λ (sessions : List (Session g.row.H-Pass.Denot)). map script_of sessions) c.as_mut_slice.ensures.value ∙ c.in_ok-hub.ensures.scripts in
-      if-ok c.finish_run.result _ _
-      (λ run legal. legal c.args.scenario.now c.args.pages c.args.patience c.args.format
-      (record { sound = c.requires.sound; opened = c.in_ok-hub.ensures.shape; scripts = ap (λ (sessions : List (Session g.row.H-Pass.Denot)). map script_of sessions) back ∙ scripts }))
-      c.finish_run.ensures.legal;
-}
+pub returns-clause-back : goal.returns-clause-back
+returns-clause-back g c =
+    let new : List (Session g.row.H-Pass.Denot) = c.run_sessions.new.sessions in
+    let count = same-count script_of new c.as_mut_slice.result.now c.run_sessions.ensures.scripts ∙ c.as_mut_slice.ensures.len in
+    let back = written-back new (drop (length new) c.in_ok-hub.sessions.items) c.in_ok-hub.sessions.len (sym count) in
+    let scripts = c.run_sessions.ensures.scripts ∙ ap (λ (sessions : List (Session g.row.H-Pass.Denot)). map script_of sessions) c.as_mut_slice.ensures.value ∙ c.in_ok-hub.ensures.scripts in
+    ap (λ (ss : List Section). scenario_of ss c.args.scenario.flags)
+    (c.in_ok-run.ensures.sections ∙ ap (λ (sessions : List (Session g.row.H-Pass.Denot)). map (λ (s : Session g.row.H-Pass.Denot). s.section) sessions) back
+    ∙ sym (sections-are (plan_for c.args.scenario) c.args.patience c.args.scenario.sections new scripts))
+
+pub returns-clause-legal : goal.returns-clause-legal
+returns-clause-legal g c =
+    let new : List (Session g.row.H-Pass.Denot) = c.run_sessions.new.sessions in
+    let count = same-count script_of new c.as_mut_slice.result.now c.run_sessions.ensures.scripts ∙ c.as_mut_slice.ensures.len in
+    let back = written-back new (drop (length new) c.in_ok-hub.sessions.items) c.in_ok-hub.sessions.len (sym count) in
+    let scripts = c.run_sessions.ensures.scripts ∙ ap (λ (sessions : List (Session g.row.H-Pass.Denot)). map script_of sessions) c.as_mut_slice.ensures.value ∙ c.in_ok-hub.ensures.scripts in
+    c.in_ok-run.ensures.legal c.args.scenario c.args.pages c.args.patience c.args.format
+    (record { sound = c.requires.sound; opened = c.in_ok-hub.ensures.shape; scripts = ap (λ (sessions : List (Session g.row.H-Pass.Denot)). map script_of sessions) back ∙ scripts })
