@@ -1,4 +1,4 @@
-ghost use Rattle.std.specs.Prelude.{◌≡◌, ◌≤◌, map, IfOk, All};
+ghost use Rattle.std.specs.Prelude.{◌≡◌, ◌≤◌, [], ◌∷◌, ◌++◌, map, IfOk, OnOk, All};
 ghost use Rattle.pgn_hub.specs.Shape.{Shape};
 ghost use Rattle.pgn_session.specs.Whole.{HasRest};
 ghost use Rattle.pgn_threads.specs.Parts.{part_of, trace_of};
@@ -74,16 +74,57 @@ pub(crate) fn logs<P: PassView + Send + Drop>(
     ensures traces { IfOk result (λ logs. logs.1.items ≡ map (λ s. trace_of (part_of P.known s)) sessions.items) }
     ensures sections { IfOk result (λ logs. logs.2.items ≡ map (λ s. s.section) sessions.items) }
 {
-    let mut passes = Vec::with_capacity(alloc, sessions.len())?;
-    let mut traces = Vec::with_capacity(alloc, sessions.len())?;
-    let mut sections = Vec::with_capacity(alloc, sessions.len())?;
-    for session in sessions {
-        let (pass, trace, section) = log_of(session);
-        passes.push(pass)?;
-        traces.push(trace)?;
-        sections.push(section)?;
+    let mut passes = Vec::new(alloc);
+    let mut traces = Vec::new(alloc);
+    let mut sections = Vec::new(alloc);
+    match log_each(sessions, &mut passes, &mut traces, &mut sections) {
+        Ok(()) => Ok((passes, traces, sections)),
+        Err(error) => {
+            drop(passes);
+            drop(traces);
+            drop(sections);
+            Err(error)
+        }
     }
-    Ok((passes, traces, sections))
+}
+
+// Takes each session apart.
+fn log_each<P: PassView + Send + Drop>(
+    sessions: Vec<Session<P>>,
+    passes: &mut Vec<P>,
+    traces: &mut Vec<Trace>,
+    sections: &mut Vec<Section>,
+) -> Result<(), AllocError>
+    requires none { (passes.old.items ≡ []) × (traces.old.items ≡ []) × (sections.old.items ≡ []) }
+    ensures passes { OnOk result (passes.new.items ≡ map (λ s. s.pass) sessions.items) }
+    ensures traces { OnOk result
+        (traces.new.items ≡ map (λ s. trace_of (part_of P.known s)) sessions.items) }
+    ensures sections { OnOk result (sections.new.items ≡ map (λ s. s.section) sessions.items) }
+{
+    for session in sessions {
+        keep(session, passes, traces, sections)?;
+    }
+    Ok(())
+}
+
+// Keeps the pass of a session, its trace, and its section.
+fn keep<P: PassView + Send + Drop>(
+    session: Session<P>,
+    passes: &mut Vec<P>,
+    traces: &mut Vec<Trace>,
+    sections: &mut Vec<Section>,
+) -> Result<(), AllocError>
+    ensures passes { OnOk result (passes.new.items ≡ passes.old.items ++ session.pass ∷ []) }
+    ensures traces { OnOk result
+        (traces.new.items ≡ traces.old.items ++ trace_of (part_of P.known session) ∷ []) }
+    ensures sections { OnOk result
+        (sections.new.items ≡ sections.old.items ++ session.section ∷ []) }
+{
+    let (pass, trace, section) = log_of(session);
+    passes.push(pass)?;
+    traces.push(trace)?;
+    sections.push(section)?;
+    Ok(())
 }
 
 // The pass of a session, its trace, and its section.

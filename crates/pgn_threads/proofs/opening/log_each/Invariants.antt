@@ -1,6 +1,6 @@
 use Rattle.std.proofs.Common.{◌≡◌, map}
 use Rattle.pgn_threads.specs.Parts.{part_of, trace_of}
-use Rattle.pgn_threads.proofs.opening.logs.Given as goal
+use Rattle.pgn_threads.proofs.opening.log_each.Given as goal
 
 abbrev pub invariant-loop-session : goal.invariant-loop-session
 invariant-loop-session g l =
