@@ -1,4 +1,4 @@
-use Rattle.std.proofs.Common.{◌≡◌, List, IfOk, map, sym, subst, ◌∙◌}
+use Rattle.std.proofs.Common.{◌≡◌, List, IfOk, map, sym, subst}
 use Rattle.pgn_language.specs.declared.scenario.Section.{Section}
 use Rattle.pgn_language.specs.Inputs.{IsSound}
 use Rattle.pgn_session.specs.Runs.{script_of}
