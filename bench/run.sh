@@ -12,6 +12,7 @@
 #   blocks       LISTEN c, and n NOTIFYs of payloads that differ, in blocks of 100
 #   savepoints   LISTEN c, and blocks of 20 times SAVEPOINT, NOTIFY, and after each third ROLLBACK TO that savepoint: n NOTIFYs
 #   4096-set     4,096 LISTENs, and n times NOTIFY c0 with a payload of 1 byte
+#   rows         4,096 LISTENs, and n times pg_listening_channels, so that a line has 4,096 rows
 #   listens      n LISTENs
 #   left         n LISTENs, and then an UNLISTEN of each
 #   left-block   the same in one block
@@ -23,7 +24,13 @@
 # line more. Where a byte more takes a quarter more instructions between the larger two sizes than between the smaller two, the load
 # grows faster than its input and output, and the row says so.
 #
-#   start        LISTEN c and NOTIFY c, with 256 and with 1,024 pages: the instructions of the whole run
+#   start        LISTEN c and n times NOTIFY c, with 256 and with 1,024 pages: the instructions of the whole run
+#
+# Then come queries of one client, by `wire`:
+#
+#   wire         LISTEN c, and n times NOTIFY c with a payload of 1 byte, as above; and the start, as above
+#   together     the same, sent in one go by bench/asking.c, which takes the answers: queries a second by the clock
+#   apart        the same, each sent once the one before was answered
 #
 # Then come several sessions, at three sizes each:
 #
@@ -41,25 +48,26 @@
 #   60,000 lines          a session that sends so many, alone; then beside 255 sessions that await the flag which it raises last
 #   a flag after a while  a session that sends 4,000 lines and raises a flag, alone; then beside one that awaits the flag
 #   256 on one processor  255 sessions await a flag that the other one raises after 10,000 lines, all on one processor
-#   255 idle, 10 seconds  255 sessions that listen, beside one that awaits a flag in vain
+#   idle, 10 seconds      64 and 255 sessions that listen, beside one that awaits a flag in vain
 #
 # Then come drills, which have a scenario of their own: 8 sessions that send 200 and 1,000 notifications each, and 32 that send 200.
 # Beside each stand the milliseconds of a plain program on the same scenario, with one lock round its queue, on 4 processors. A drill
-# is run ten times, and its summary has to be the one that its words say; the mean is given.
+# is run ten times, and its summary has to be the one that its words say; the mean is given, and the peak memory.
 #
 # Then come live runs:
 #
 #   60,000 notifications, at its end   self-notify, and the text once the run has ended
 #   60,000 notifications, live         the same with --live; it may take twice the processor time
 #
-# and how soon the lines of a live run are there, by bench/live, and what an idle session reads, by bench/idle.
+# and how soon the lines of a live run are there, by bench/live, and how soon a commit is read by 1 and by 64 idle sessions, and by --live
+# written, by bench/idle.
 #
 # With --hostile only bench/hostile.sh is run, with --checked only bench/checked.sh, whose heads say what they are.
 #
 # Seconds are those of the processor, the least of three runs, and depend on the machine's load. Instructions do not: where they are
 # counted, bench/entropy.c gives the program the same bytes for its seed in each run. Wall time is the least of three runs too, but of one
-# where two sessions wait for each other in vain. Needs GNU time, awk, Python, taskset, and valgrind with a C compiler for the instructions
-# (without valgrind those are left out).
+# where sessions wait in vain. Needs GNU time, awk, Python, taskset, a C compiler, and valgrind for the instructions (without valgrind those
+# are left out).
 set -eu
 
 only=
@@ -89,12 +97,16 @@ refused() {
     exit 1
 }
 
+# The command that is measured, and the function that makes its inputs: `run` and `made`, or `wire` and `asked`.
+command=run maker=made
+
 # timed FILE WORD ..: the least processor seconds of three runs with these words, and the peak memory in KB
 timed() {
     file=$1
     shift
     for _ in 1 2 3; do
-        env time -q -a -o "$room/times" -f '%U %S %M' "$program" run "$@" <"$room/$file" >"$room/output" 2>"$room/errors" || refused "$file" $?
+        env time -q -a -o "$room/times" -f '%U %S %M' \
+            "$program" "$command" "$@" <"$room/$file" >"$room/output" 2>"$room/errors" || refused "$file" $?
     done
     awk 'NR == 1 || $1 + $2 < best { best = $1 + $2 } { peak = $3 } END { printf "%.2f %d", best, peak }' "$room/times"
     rm -f -- "$room/times"
@@ -110,7 +122,7 @@ counted() {
     shift
     [ -e "$room/entropy.so" ] || cc -O2 -shared -fPIC -o "$room/entropy.so" "$root/bench/entropy.c"
     LD_PRELOAD=$room/entropy.so valgrind --tool=callgrind --callgrind-out-file=/dev/null --log-file="$room/log" \
-        "$program" run "$@" <"$room/$file" >"$room/output" 2>"$room/errors" || refused "$file" $?
+        "$program" "$command" "$@" <"$room/$file" >"$room/output" 2>"$room/errors" || refused "$file" $?
     awk '$2 == "Collected" { print $4 }' "$room/log"
 }
 
@@ -124,6 +136,13 @@ made() {
     { printf '\\session a 1\n' && awk -v n="$3" "$letters BEGIN { $2 }"; } >"$room/$1"
 }
 
+# asked FILE QUERY N: a client that asks LISTEN c, and then so many times this query
+asked() {
+    python3 -c 'import struct, sys
+def message(text): return b"Q" + struct.pack("!I", 5 + len(text)) + text.encode() + b"\0"
+sys.stdout.buffer.write(message("LISTEN c") + message(sys.argv[1]) * int(sys.argv[2]))' "$2" "$3" >"$room/$1"
+}
+
 # so many letters p, for the bodies
 letters='function p(count,   text) { while (length(text) < count) text = text "p"; return text }'
 
@@ -132,7 +151,7 @@ load() {
     name=$1 body=$2 before=
     shift 2
     for n in "$@"; do
-        made load "$body" "$n"
+        "$maker" load "$body" "$n"
         times=$(timed load)
         count=$(counted load)
         now="$n $count $(moved load) ${times#* }"
@@ -152,14 +171,26 @@ load() {
     done
 }
 
-# start WORD ..: a row of a run of three lines with these words
+# start BODY N WORD ..: a row of a short run with these words
 start() {
-    made load 'print "LISTEN c"; print "NOTIFY c"' 0
+    "$maker" load "$1" "$2"
+    notes=$2
+    shift 2
     times=$(timed load "$@")
     count=$(counted load "$@")
-    wall=$("$root/bench/timed" 20 "$room/load" "$room/output" "$room/errors" "$program" run "$@") || refused load $?
-    printf '%s\n' "$times $count $wall $*" | awk '{
-        printf "start %-12s %5.1f ms of processor time %5.1f ms of wall time %5.1f MB peak %11.0f instructions\n", $6 " " $7, $4, $5, $2 / 1024, $3
+    wall=$("$root/bench/timed" 20 "$room/load" "$room/output" "$room/errors" "$program" "$command" "$@") || refused load $?
+    printf '%s\n' "$notes $times $count $wall $command $*" | awk '{
+        printf "start %4d %-17s %5.1f ms of processor time %5.1f ms of wall time %5.1f MB peak %11.0f instructions\n",
+            $1, $7 " " $8 " " $9, $5, $6, $3 / 1024, $4
+    }'
+}
+
+# rate WAY N: how many queries a second `wire` answers, of so many that are asked together or apart; the best of five runs
+rate() {
+    [ -e "$room/asking" ] || cc -O2 -o "$room/asking" "$root/bench/asking.c"
+    for _ in 1 2 3 4 5; do "$room/asking" "$1" "$2" "$program" wire 2>"$room/errors" || refused "$*" $?; done >"$room/micros"
+    sort -n "$room/micros" | awk -v way="$1" -v count="$2" 'NR == 1 {
+        printf "wire %-8s %6d queries %8.0f a second %6.1f microseconds each\n", way, count, count * 1000000 / $1, $1 / count
     }'
 }
 
@@ -263,9 +294,12 @@ measure_waits() {
     sender one 10000
     waits '256 on one processor' one 3 taskset -c 0
     in_time
-    sessions quiet 1 255
-    printf '\\session waits 1\n\\await f\n\\signal f\n' >>"$room/quiet"
-    waits '255 idle, 10 seconds' quiet 1
+    for count in 64 255; do
+        rm -f -- "$room/quiet"
+        sessions quiet 1 "$count"
+        printf '\\session waits 1\n\\await f\n\\signal f\n' >>"$room/quiet"
+        waits "$count idle, 10 seconds" quiet 1
+    done
 }
 
 # drill PLAIN SEED SESSIONS NOTES: the processor and wall milliseconds of a run of this drill, and those of the plain program
@@ -281,15 +315,16 @@ drill() {
         print "received " received
     }' >"$room/wanted"
     for _ in 1 2 3 4 5 6 7 8 9 10; do
-        env time -q -a -o "$room/times" -f '%U %S %e' "$program" drill "$@" >"$room/output" 2>"$room/errors" || refused "drill $*" $?
+        env time -q -a -o "$room/times" -f '%U %S %e %M' "$program" drill "$@" >"$room/output" 2>"$room/errors" || refused "drill $*" $?
         cmp -s -- "$room/output" "$room/wanted" || {
             printf 'bench: the drill %s printed\n' "$*" >&2
             cat -- "$room/output" >&2
             exit 1
         }
     done
-    awk -v words="$*" -v plain="$plain" '{ cpu += $1 + $2; wall += $3 } END {
-        printf "drill %-10s %8.1f ms of processor %8.1f ms of clock    plain program %5.1f ms\n", words, cpu * 1000 / NR, wall * 1000 / NR, plain
+    awk -v words="$*" -v plain="$plain" '{ cpu += $1 + $2; wall += $3 } $4 > peak { peak = $4 } END {
+        printf "drill %-10s %8.1f ms of processor %8.1f ms of clock %5.1f MB peak    plain program %5.1f ms\n",
+            words, cpu * 1000 / NR, wall * 1000 / NR, peak / 1024, plain
     }' "$room/times"
     rm -f -- "$room/times"
 }
@@ -339,11 +374,34 @@ many_savepoints='print "BEGIN"; for (i = 0; i < n; i++) print "SAVEPOINT s" i'
 # What sets of many channels and lists of many savepoints cost.
 measure_many() {
     load 4096-set "m = 4096; k = n; $listens" 1000 2000 10000
+    load rows "m = 4096; k = 0; $listens; for (i = 0; i < n; i++) print \"SELECT pg_listening_channels()\"" 10 20 40
     load listens "m = n; k = 0; $listens" 1024 2048 4096
     load left "$many_channels" 1024 2048 4096
     load left-block "print \"BEGIN\"; $many_channels; print \"COMMIT\"" 1024 2048 4096
     load no-such "$many_savepoints; print \"x\"; for (i = 0; i < n; i++) print \"ROLLBACK TO t\"" 1024 2048 4096
     load come-go "$many_savepoints; for (i = 0; i < n; i++) { print \"SAVEPOINT x\"; print \"RELEASE t\"; print \"ROLLBACK TO s\" (n - 1) }" 1024 2048 4096
+}
+
+# What a start costs, with few notifications and with so many that the queue has many pages.
+measure_starts() {
+    body='print "LISTEN c"; for (i = 0; i < n; i++) print "NOTIFY c"'
+    start "$body" 1
+    start "$body" 1 --pages 1024
+    start "$body" 128
+    start "$body" 1024
+}
+
+# What the queries of one client cost.
+measure_wire() {
+    command=wire maker=asked
+    load wire "NOTIFY c, 'p'" 2000 4000 60000
+    start 'NOTIFY c' 1
+    start 'NOTIFY c' 128
+    command=run maker=made
+    for way in together apart; do
+        rate "$way" 30000
+        rate "$way" 60000
+    done
 }
 
 # What several sessions cost.
@@ -364,8 +422,8 @@ if [ -n "$only" ]; then
 fi
 measure_lines
 measure_many
-start
-start --pages 1024
+measure_starts
+measure_wire
 measure_several
 drill 4.5 7 8 200
 drill 12.8 7 8 1000
