@@ -12,7 +12,7 @@ use pgn_run::{Means, Status};
 use std::alloc::{AllocError, Global};
 use std::hash::{BuildHasher, Hasher};
 use std::io;
-use std::io::{ErrorKind, Read, Write};
+use std::io::{BufReader, ErrorKind, Read, Write};
 use std::process::Abort;
 use std::random::RandomSource;
 use std::sync::Wait;
@@ -429,6 +429,44 @@ fn an_interrupted_read_is_tried_again(rt: HostRuntime) {
         calls: 0,
     });
     assert_gives(&rt, &mut source);
+}
+
+// A stream that gives `abc` where there is room, and then fails.
+#[derive(Drop)]
+struct Breaking {
+    given: bool,
+}
+
+impl Read for Breaking {
+    fn read(&mut self, buf: &mut [u8]) -> io::Result<usize> {
+        if self.given {
+            return Err(io::Error::from(ErrorKind::BrokenPipe));
+        }
+        self.given = true;
+        b"abc".as_slice().read(buf)
+    }
+}
+
+#[test]
+fn a_buffer_gives_what_came(rt: HostRuntime) -> Result<(), Fail> {
+    let mut buffer = [0; 2];
+    let mut source = Input::new(BufReader::new(rt.alloc(), Breaking { given: false })?);
+    assert_eq!(rt; source.read(&mut buffer), Ok(2));
+    assert_eq!(rt; &buffer, b"ab");
+    assert_eq!(rt; source.read(&mut buffer), Ok(1));
+    assert_eq!(rt; buffer[0], b'c');
+    assert_eq!(rt; source.read(&mut buffer), Err(Failed));
+    Ok(())
+}
+
+#[test]
+fn an_interrupted_read_of_a_buffer_is_tried_again(rt: HostRuntime) -> Result<(), Fail> {
+    let stream = Interrupted {
+        stream: b"abc".as_slice(),
+        calls: 0,
+    };
+    assert_gives(&rt, &mut Input::new(BufReader::new(rt.alloc(), stream)?));
+    Ok(())
 }
 
 #[test]
