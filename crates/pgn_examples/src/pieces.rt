@@ -3,7 +3,7 @@ ghost use Rattle.pgn_base.specs.declared.format.Format.TheVariants.{One};
 ghost use Rattle.pgn_journal.specs.declared.tx.Fate.TheVariants.{Committed, Aborted};
 ghost use Rattle.pgn_journal.specs.Due.{due};
 ghost use Rattle.pgn_journal.specs.Packing.{image, place_at};
-ghost use Rattle.pgn_journal.specs.Pieces.{AnEntry, AFiller, number_of, lay, pieces_from, gives, give_all, committed_by, QueuesAll, IsReadable, IsWritten, draft};
+ghost use Rattle.pgn_journal.specs.Pieces.{AnEntry, AFiller, number_of, lay, pieces_from, gives, give_all, committed_by, QueuesAll, IsReadable, IsSamePiece, IsWritten, draft};
 ghost use Rattle.pgn_examples.specs.Runs.{hello, self_notify_journal};
 ghost use Rattle.pgn_journal.specs.examples.Packing.{filler_journal};
 ghost use Rattle.pgn_examples.specs.Due.{c_name, d_name, on, delivered, mixed_journal, third_tx};
@@ -53,6 +53,20 @@ pub fn unreadable_pieces()
     ensures xid { IsReadable One (AFiller 20 (by 1 (2 ^ 32) 1001)) → ⊥ }
     ensures no_db { IsReadable One (AnEntry hello (by 0 3 1001)) → ⊥ }
     ensures no_name { IsReadable One (AnEntry nameless (by 1 3 1001)) → ⊥ }
+{}
+
+/// Which pieces are the same, as far as their bytes tell: fillers of one length, number and process, whatever the database of their
+/// sender. An entry is no filler, a filler no entry, and an entry is not one with another notification or another sender.
+pub fn same_pieces()
+    ensures entry { IsSamePiece (AnEntry hello (by 1 3 1001)) (AnEntry hello (by 1 3 1001)) }
+    ensures filler { IsSamePiece (AFiller 20 (by 1 3 1001)) (AFiller 20 (by 2 3 1001)) }
+    ensures entry_no_filler { IsSamePiece (AnEntry hello (by 1 3 1001)) (AFiller 20 (by 1 3 1001)) → ⊥ }
+    ensures filler_no_entry { IsSamePiece (AFiller 20 (by 1 3 1001)) (AnEntry hello (by 1 3 1001)) → ⊥ }
+    ensures other_note { IsSamePiece (AnEntry hello (by 1 3 1001)) (AnEntry nameless (by 1 3 1001)) → ⊥ }
+    ensures other_db { IsSamePiece (AnEntry hello (by 1 3 1001)) (AnEntry hello (by 2 3 1001)) → ⊥ }
+    ensures other_length { IsSamePiece (AFiller 20 (by 1 3 1001)) (AFiller 24 (by 1 3 1001)) → ⊥ }
+    ensures other_xid { IsSamePiece (AFiller 20 (by 1 3 1001)) (AFiller 20 (by 1 4 1001)) → ⊥ }
+    ensures other_pid { IsSamePiece (AFiller 20 (by 1 3 1001)) (AFiller 20 (by 1 3 1002)) → ⊥ }
 {}
 
 /// A transaction that has placed the first of two notifications. Nothing is asked of those that are not queued.
