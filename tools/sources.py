@@ -1489,6 +1489,8 @@ class Body:
             for method in candidates:
                 self.name(method, line, 'calls')
                 self.project.guessed.add((method, self.item))
+            if not candidates and name in TEXT:
+                return ('str', [])
             return self.result_of(candidates[0], None) if len(candidates) == 1 else None
         return self.outside(kind, name)
 
