@@ -687,8 +687,10 @@ class Project:
             if name in scope:
                 return self.ghost_at(scope[name]) or (self.ghost_at(scope[name] + path[1:2]) if len(path) > 1 else None)
         if name in item.generics or name == 'Self':
+            bounds = item.generics.get(name) or []
             for member in path[1:]:
-                for ghost in self.trait_members.get(member, []):
+                ghosts = self.trait_members.get(member, [])
+                for ghost in [it for it in ghosts if it.in_trait is not None and it.in_trait.name in bounds] + ghosts:
                     return ghost
             return None
         if item.in_trait is not None:
