@@ -1,4 +1,3 @@
-mod answering;
 mod asking;
 mod serving;
 mod waiting;

@@ -4,7 +4,6 @@ use pgn_language::{Act, ScriptLine};
 use pgn_memory::MemSource;
 use pgn_queries::{NoQuery, Queries, WireFault};
 use std::alloc::{AllocError, Global};
-use std::test::Fail;
 
 // `LISTEN c`, `NOTIFY c, 'x'`, and a Terminate.
 const TALK: &[u8] = b"Q\0\0\0\x0dLISTEN c\0Q\0\0\0\x12NOTIFY c, 'x'\0X\0\0\0\x04";
@@ -59,15 +58,37 @@ fn is_script(lines: &[ScriptLine]) -> bool {
     }
 }
 
+// Whether these bytes, at most so many a call, have the queries of the talk, and then this end.
+fn is_talk(alloc: Global, bytes: &[u8], most: usize, end: Option<NoQuery>) -> bool {
+    let Ok(asked) = asked(alloc, bytes, &[], most) else {
+        return false;
+    };
+    let right = is_script(&asked.lines) && asked.end == end;
+    drop(asked);
+    right
+}
+
+// Whether these bytes, at most so many a call, of which these fail, have so many queries, and then this end.
+fn are_asked(
+    alloc: Global,
+    bytes: &[u8],
+    calls: (&[u64], usize),
+    count: usize,
+    end: Option<NoQuery>,
+) -> bool {
+    let Ok(asked) = asked(alloc, bytes, calls.0, calls.1) else {
+        return false;
+    };
+    let right = asked.lines.len() == count && asked.end == end;
+    drop(asked);
+    right
+}
+
 #[test]
-fn cut_by_the_reads_in_any_way(rt: HostRuntime) -> Result<(), Fail> {
-    let alloc = rt.alloc();
+fn cut_by_the_reads_in_any_way(rt: HostRuntime) {
     for most in [1, 2, 3, 14, 64] {
-        let asked = asked(alloc, TALK, &[], most)?;
-        assert!(rt; is_script(&asked.lines));
-        assert!(rt; asked.end.is_none());
+        assert!(rt; is_talk(rt.alloc(), TALK, most, None));
     }
-    Ok(())
 }
 
 // Bytes, how many queries they have, and the fault behind these.
@@ -98,14 +119,18 @@ const FAULTS: [(&[u8], usize, WireFault); 15] = [
 ];
 
 #[test]
-fn faults_at_their_offsets(rt: HostRuntime) -> Result<(), Fail> {
-    let alloc = rt.alloc();
+fn faults_at_their_offsets(rt: HostRuntime) {
     for (bytes, count, fault) in FAULTS {
-        let asked = asked(alloc, bytes, &[], 1)?;
-        assert!(rt; asked.lines.len() == count);
-        assert!(rt; asked.end == Some(NoQuery::Fault(fault)));
+        assert!(rt;
+            are_asked(
+                rt.alloc(),
+                bytes,
+                (&[], 1),
+                count,
+                Some(NoQuery::Fault(fault))
+            )
+        );
     }
-    Ok(())
 }
 
 // Where the only line is at fault, of which no text is kept.
@@ -119,17 +144,24 @@ fn only_fault(lines: &[ScriptLine]) -> Option<u32> {
     }
 }
 
+// The same of the queries of these bytes.
+fn fault_of(alloc: Global, bytes: &[u8]) -> Option<u32> {
+    let Ok(asked) = asked(alloc, bytes, &[], 64) else {
+        return None;
+    };
+    let at = only_fault(&asked.lines);
+    drop(asked);
+    at
+}
+
 #[test]
-fn a_text_with_a_line_feed(rt: HostRuntime) -> Result<(), Fail> {
-    let asked = asked(rt.alloc(), b"Q\0\0\0\x0bLIS\nTN\0rest", &[], 64)?;
-    assert_eq!(rt; only_fault(&asked.lines), Some(3));
-    Ok(())
+fn a_text_with_a_line_feed(rt: HostRuntime) {
+    assert!(rt; fault_of(rt.alloc(), b"Q\0\0\0\x0bLIS\nTN\0rest") == Some(3));
 }
 
 // The reads of a source that gives 14 bytes at a time: three a query and two for the Terminate.
 #[test]
-fn a_source_that_fails_at_each_of_its_calls(rt: HostRuntime) -> Result<(), Fail> {
-    let alloc = rt.alloc();
+fn a_source_that_fails_at_each_of_its_calls(rt: HostRuntime) {
     for (call, count) in [
         (1, 0),
         (2, 0),
@@ -140,34 +172,33 @@ fn a_source_that_fails_at_each_of_its_calls(rt: HostRuntime) -> Result<(), Fail>
         (7, 2),
         (8, 2),
     ] {
-        let asked = asked(alloc, TALK, &[call], 14)?;
-        assert!(rt; asked.lines.len() == count);
-        assert!(rt; asked.end == Some(NoQuery::Failed));
+        assert!(rt;
+            are_asked(
+                rt.alloc(),
+                TALK,
+                (&[call], 14),
+                count,
+                Some(NoQuery::Failed)
+            )
+        );
     }
-    Ok(())
 }
 
 #[test]
-fn a_message_cut_after_each_of_its_bytes(rt: HostRuntime) -> Result<(), Fail> {
-    let alloc = rt.alloc();
+fn a_message_cut_after_each_of_its_bytes(rt: HostRuntime) {
     for cut in 0..14 {
-        let asked = asked(alloc, &TALK[..cut], &[], 3)?;
         let truncated = Some(NoQuery::Fault(WireFault::Truncated { at: 0 }));
-        assert!(rt; asked.lines.is_empty());
-        assert!(rt; asked.end == if cut == 0 { None } else { truncated });
+        let end = if cut == 0 { None } else { truncated };
+        assert!(rt; are_asked(rt.alloc(), &TALK[..cut], (&[], 3), 0, end));
     }
-    Ok(())
 }
 
 #[test]
-fn a_terminate_cut_after_each_of_its_bytes(rt: HostRuntime) -> Result<(), Fail> {
-    let alloc = rt.alloc();
+fn a_terminate_cut_after_each_of_its_bytes(rt: HostRuntime) {
     for cut in 34..38 {
-        let asked = asked(alloc, &TALK[..cut], &[], 64)?;
-        assert!(rt; is_script(&asked.lines));
-        assert!(rt; asked.end == Some(NoQuery::Fault(WireFault::Truncated { at: 33 })));
+        let end = Some(NoQuery::Fault(WireFault::Truncated { at: 33 }));
+        assert!(rt; is_talk(rt.alloc(), &TALK[..cut], 64, end));
     }
-    Ok(())
 }
 
 fn longest_query(alloc: Global) -> Result<Vec<u8>, AllocError> {
@@ -189,28 +220,37 @@ fn only_length(lines: &[ScriptLine]) -> Option<usize> {
 }
 
 #[test]
-fn the_longest_query(rt: HostRuntime) -> Result<(), Fail> {
-    let bytes = longest_query(rt.alloc())?;
-    let asked = asked(rt.alloc(), &bytes, &[], 4_096)?;
-    assert!(rt; asked.end.is_none());
-    assert_eq!(rt; only_length(&asked.lines), Some(65_536));
-    Ok(())
+fn the_longest_query(rt: HostRuntime) {
+    assert!(rt; takes_the_longest(rt.alloc()) == Ok(true));
+}
+
+// Whether the longest query is taken as it stands.
+fn takes_the_longest(alloc: Global) -> Result<bool, AllocError> {
+    let bytes = longest_query(alloc)?;
+    let taken = is_taken(alloc, &bytes, 65_536);
+    drop(bytes);
+    taken
+}
+
+// Whether these bytes have one query, whose text is no command and so long, and then end.
+fn is_taken(alloc: Global, bytes: &[u8], length: usize) -> Result<bool, AllocError> {
+    let asked = asked(alloc, bytes, &[], 4_096)?;
+    let taken = asked.end.is_none() && only_length(&asked.lines) == Some(length);
+    drop(asked);
+    Ok(taken)
 }
 
 #[test]
-fn bytes_behind_a_terminate(rt: HostRuntime) -> Result<(), Fail> {
-    let asked = asked(rt.alloc(), b"X\0\0\0\x04Q\0\0\0\x05\0", &[], 64)?;
-    assert!(rt; asked.lines.is_empty());
-    assert!(rt; asked.end.is_none());
-    Ok(())
+fn bytes_behind_a_terminate(rt: HostRuntime) {
+    let bytes = b"X\0\0\0\x04Q\0\0\0\x05\0".as_slice();
+    assert!(rt; are_asked(rt.alloc(), bytes, (&[], 64), 0, None));
 }
 
 #[test]
-fn a_line_feed_alone(rt: HostRuntime) -> Result<(), Fail> {
-    let asked = asked(rt.alloc(), b"Q\0\0\0\x06\n\0", &[], 64)?;
-    assert!(rt; asked.end.is_none());
-    assert_eq!(rt; only_fault(&asked.lines), Some(0));
-    Ok(())
+fn a_line_feed_alone(rt: HostRuntime) {
+    let bytes = b"Q\0\0\0\x06\n\0".as_slice();
+    assert!(rt; fault_of(rt.alloc(), bytes) == Some(0));
+    assert!(rt; are_asked(rt.alloc(), bytes, (&[], 64), 1, None));
 }
 
 // How many queries of the talk are read byte by byte before this call.
@@ -226,21 +266,15 @@ fn queries_before(call: u64) -> usize {
 
 // The talk takes 38 reads of one byte: a read more is asked for by nothing.
 #[test]
-fn a_source_of_single_bytes_that_fails(rt: HostRuntime) -> Result<(), Fail> {
-    let alloc = rt.alloc();
+fn a_source_of_single_bytes_that_fails(rt: HostRuntime) {
     for call in 1..40 {
-        let asked = asked(alloc, TALK, &[call], 1)?;
-        assert!(rt; asked.lines.len() == queries_before(call));
-        assert!(rt;
-            asked.end
-                == if call == 39 {
-                    None
-                } else {
-                    Some(NoQuery::Failed)
-                }
-        );
+        let end = if call == 39 {
+            None
+        } else {
+            Some(NoQuery::Failed)
+        };
+        assert!(rt; are_asked(rt.alloc(), TALK, (&[call], 1), queries_before(call), end));
     }
-    Ok(())
 }
 
 // So many queries `NOTIFY c`.
@@ -281,10 +315,8 @@ fn refuses_one_more(alloc: Global, most: u32) -> Result<bool, AllocError> {
 
 // As many as a scenario's lines, few, and none.
 #[test]
-fn as_many_notifications_as_a_client_may_ask(rt: HostRuntime) -> Result<(), Fail> {
-    let alloc = rt.alloc();
-    assert!(rt; refuses_one_more(alloc, 65_536)?);
-    assert!(rt; refuses_one_more(alloc, 1)?);
-    assert!(rt; refuses_one_more(alloc, 0)?);
-    Ok(())
+fn as_many_notifications_as_a_client_may_ask(rt: HostRuntime) {
+    for most in [65_536, 1, 0] {
+        assert!(rt; refuses_one_more(rt.alloc(), most) == Ok(true));
+    }
 }

@@ -8,7 +8,6 @@ use pgn_wire::WireEnd;
 use pgn_wordhub::WordHub;
 use std::alloc::{AllocError, Global};
 use std::sync::Wait;
-use std::test::Fail;
 
 // `LISTEN c`, `NOTIFY c, 'x'`, and a Terminate.
 const TALK: &[u8] = b"Q\0\0\0\x0dLISTEN c\0Q\0\0\0\x12NOTIFY c, 'x'\0X\0\0\0\x04";
@@ -39,18 +38,51 @@ const PLAIN: Side<'static> = Side {
     fails: &[],
 };
 
-// How a client is served that sends these bytes, and what it is answered.
-fn serve<R: Wait>(
+// A conversation: what the client sends, and how it is read and answered.
+#[derive(Clone, Copy)]
+struct Talk<'a> {
+    bytes: &'a [u8],
+    reads: Side<'a>,
+    writes: Side<'a>,
+}
+
+const PLAIN_TALK: Talk<'static> = Talk {
+    bytes: TALK,
+    reads: PLAIN,
+    writes: PLAIN,
+};
+
+// Whether a client is served to this end, and answered these bytes.
+fn is_served<R: Wait>(
     rt: &R,
     alloc: Global,
-    bytes: &[u8],
-    reads: Side<'_>,
+    talk: Talk<'_>,
+    end: Result<(), WireEnd>,
+    want: &[u8],
+) -> bool {
+    let Ok(mut source) = source_of(alloc, talk.bytes, talk.reads) else {
+        return false;
+    };
+    let right = is_answered(rt, alloc, &mut source, talk.writes, (end, want));
+    drop(source);
+    right
+}
+
+// Over any source: so no clause of the call has to be computed for one in memory.
+fn is_answered<R: Wait, S: Source>(
+    rt: &R,
+    alloc: Global,
+    source: &mut S,
     writes: Side<'_>,
-) -> Result<(Result<(), WireEnd>, MemSink), Fail> {
-    let mut source = source_of(alloc, bytes, reads)?;
-    let mut sink = sink_of(alloc, writes)?;
-    let end = served::<R, MemSource, MemSink>(rt, alloc, &mut source, &mut sink);
-    Ok((end, sink))
+    want: (Result<(), WireEnd>, &[u8]),
+) -> bool {
+    let Ok(mut sink) = sink_of(alloc, writes) else {
+        return false;
+    };
+    let end = served::<R, S, MemSink>(rt, alloc, source, &mut sink);
+    let right = end == want.0 && sink.held() == want.1;
+    drop(sink);
+    right
 }
 
 fn source_of(alloc: Global, bytes: &[u8], side: Side<'_>) -> Result<MemSource, AllocError> {
@@ -64,35 +96,18 @@ fn sink_of(alloc: Global, side: Side<'_>) -> Result<MemSink, AllocError> {
     MemSink::new(alloc, 1_000, fails, side.most.max(1))
 }
 
+// The talk is read in any pieces, and answered in any.
 #[test]
-fn a_listener_that_notifies_itself(rt: HostRuntime) -> Result<(), Fail> {
-    let alloc = rt.alloc();
-    for most in [1, 64] {
-        let reads = Side { most, ..PLAIN };
-        let writes = Side { most: 7, ..PLAIN };
-        let (end, sink) = serve(&rt, alloc, TALK, reads, writes)?;
-        assert!(rt; end == Ok(()));
-        assert!(rt; sink.held() == ANSWERS);
+fn a_conversation_in_pieces(rt: HostRuntime) {
+    for most in [1, 7, 64] {
+        let side = Side { most, ..PLAIN };
+        let talk = Talk {
+            reads: side,
+            writes: side,
+            ..PLAIN_TALK
+        };
+        assert!(rt; is_served(&rt, rt.alloc(), talk, Ok(()), ANSWERS));
     }
-    Ok(())
-}
-
-#[test]
-fn a_syntax_error(rt: HostRuntime) -> Result<(), Fail> {
-    let reads = Side { most: 1, ..PLAIN };
-    let (end, sink) = serve(&rt, rt.alloc(), b"Q\0\0\0\x0bLISTEN\0", reads, PLAIN)?;
-    let want = b"E\0\0\0\x32SERROR\0VERROR\0C42601\0Msyntax error at byte 6\0\0Z\0\0\0\x05I";
-    assert!(rt; end == Ok(()));
-    assert!(rt; sink.held() == want.as_slice());
-    Ok(())
-}
-
-#[test]
-fn a_message_that_is_cut(rt: HostRuntime) -> Result<(), Fail> {
-    let (end, sink) = serve(&rt, rt.alloc(), b"Q\0\0\0\x12NO", PLAIN, PLAIN)?;
-    assert!(rt; end == Err(WireEnd::Bad(WireFault::Truncated { at: 0 })));
-    assert!(rt; sink.held().is_empty());
-    Ok(())
 }
 
 // What is answered before this read of 14 bytes.
@@ -108,65 +123,65 @@ fn answered_before(call: u64) -> &'static [u8] {
 
 // The reads of a source that gives 14 bytes at a time: three a query and two for the Terminate.
 #[test]
-fn a_source_that_fails_at_each_of_its_calls(rt: HostRuntime) -> Result<(), Fail> {
-    let alloc = rt.alloc();
+fn a_source_that_fails_at_each_of_its_calls(rt: HostRuntime) {
     for call in 1..10 {
         let reads = Side {
             most: 14,
             fails: &[call],
         };
-        let (end, sink) = serve(&rt, alloc, TALK, reads, PLAIN)?;
-        assert!(rt;
-            end == if call == 9 {
-                Ok(())
-            } else {
-                Err(WireEnd::Read)
-            }
-        );
-        assert!(rt; sink.held() == answered_before(call));
+        let talk = Talk {
+            reads,
+            ..PLAIN_TALK
+        };
+        let end = if call == 9 {
+            Ok(())
+        } else {
+            Err(WireEnd::Read)
+        };
+        assert!(rt; is_served(&rt, rt.alloc(), talk, end, answered_before(call)));
     }
-    Ok(())
 }
 
 #[test]
-fn a_sink_that_fails_at_each_of_its_calls(rt: HostRuntime) -> Result<(), Fail> {
-    let alloc = rt.alloc();
+fn a_sink_that_fails_at_each_of_its_calls(rt: HostRuntime) {
     for (call, size) in [(1, 0), (2, 18)] {
         let writes = Side {
             fails: &[call],
             ..PLAIN
         };
-        let (end, sink) = serve(&rt, alloc, TALK, PLAIN, writes)?;
-        assert!(rt; end == Err(WireEnd::Write));
-        assert!(rt; sink.held() == &ANSWERS[..size]);
+        let talk = Talk {
+            writes,
+            ..PLAIN_TALK
+        };
+        assert!(rt; is_served(&rt, rt.alloc(), talk, Err(WireEnd::Write), &ANSWERS[..size]));
     }
-    Ok(())
 }
 
 #[test]
-fn a_sink_that_fails_within_an_answer(rt: HostRuntime) -> Result<(), Fail> {
+fn a_sink_that_fails_within_an_answer(rt: HostRuntime) {
     let writes = Side {
         most: 5,
         fails: &[2],
     };
-    let (end, sink) = serve(&rt, rt.alloc(), TALK, PLAIN, writes)?;
-    assert!(rt; end == Err(WireEnd::Write));
-    assert!(rt; sink.held() == &ANSWERS[..5]);
-    Ok(())
+    let talk = Talk {
+        writes,
+        ..PLAIN_TALK
+    };
+    assert!(rt; is_served(&rt, rt.alloc(), talk, Err(WireEnd::Write), &ANSWERS[..5]));
 }
 
-// A listener that leaves an old notification of its own behind, and listens again: nothing comes twice, and nothing that is older than
-// the second LISTEN.
-#[test]
-fn a_listener_that_listens_again(rt: HostRuntime) -> Result<(), Fail> {
-    let bytes =
-        b"Q\0\0\0\x0dLISTEN c\0Q\0\0\0\x0fUNLISTEN c\0Q\0\0\0\x0dNOTIFY c\0Q\0\0\0\x0dLISTEN c\0";
-    let want =
-        b"C\0\0\0\x0bLISTEN\0Z\0\0\0\x05IC\0\0\0\x0dUNLISTEN\0Z\0\0\0\x05IC\0\0\0\x0bNOTIFY\0Z\0\0\0\x05IC\0\0\0\x0bLISTEN\0Z\0\0\0\x05I";
-    let (end, sink) = serve(&rt, rt.alloc(), bytes, PLAIN, PLAIN)?;
-    assert!(rt; end == Ok(()));
-    assert!(rt; sink.held() == want.as_slice());
-    Ok(())
+// Whether a client that sends these bytes behind its two queries is answered these, and nothing behind them, before this fault.
+fn is_told_before<R: Wait>(rt: &R, alloc: Global, more: &[u8], fault: WireFault) -> bool {
+    let Ok(bytes) = behind_the_queries(alloc, more) else {
+        return false;
+    };
+    let talk = Talk {
+        bytes: &bytes,
+        ..PLAIN_TALK
+    };
+    let right = is_served(rt, alloc, talk, Err(WireEnd::Bad(fault)), ANSWERS);
+    drop(bytes);
+    right
 }
 
 fn behind_the_queries(alloc: Global, more: &[u8]) -> Result<Vec<u8>, AllocError> {
@@ -175,83 +190,18 @@ fn behind_the_queries(alloc: Global, more: &[u8]) -> Result<Vec<u8>, AllocError>
     Ok(bytes)
 }
 
-// What a client is answered before a fault stands written, and nothing behind it.
-#[test]
-fn faults_behind_queries(rt: HostRuntime) -> Result<(), Fail> {
-    let alloc = rt.alloc();
-    for (more, fault) in [
-        (b"P\0\0\0\x04".as_slice(), WireFault::BadType { at: 33 }),
-        (b"Q\0\0\0\x04".as_slice(), WireFault::BadLength { at: 33 }),
-        (b"X\0\0\0\x05".as_slice(), WireFault::BadLength { at: 33 }),
-        (
-            b"Q\0\0\0\x06\xff\0".as_slice(),
-            WireFault::BadText { at: 33 },
-        ),
-        (b"X\0\0".as_slice(), WireFault::Truncated { at: 33 }),
-    ] {
-        let bytes = behind_the_queries(alloc, more)?;
-        let (end, sink) = serve(&rt, alloc, &bytes, PLAIN, PLAIN)?;
-        assert!(rt; end == Err(WireEnd::Bad(fault)));
-        assert!(rt; sink.held() == ANSWERS);
-    }
-    Ok(())
-}
-
-#[test]
-fn a_block_with_an_error(rt: HostRuntime) -> Result<(), Fail> {
-    let bytes = b"Q\0\0\0\x0aBEGIN\0Q\0\0\0\x06x\0Q\0\0\0\x0bCOMMIT\0";
-    let (end, sink) = serve(&rt, rt.alloc(), bytes, PLAIN, PLAIN)?;
-    let held = sink.held();
-    assert!(rt; end == Ok(()));
-    assert!(rt; held.starts_with(b"C\0\0\0\x0aBEGIN\0Z\0\0\0\x05TE"));
-    assert!(rt; held.ends_with(b"\0\0Z\0\0\0\x05EC\0\0\0\x0dROLLBACK\0Z\0\0\0\x05I"));
-    Ok(())
-}
-
-// What psql sends for `LISTEN c;`, `NOTIFY c, 'x';`, a block with a notification and an error, `SELECT pg_notify('c', 'z');` and
-// `\q`.
-const PSQL_ASKS: &[&[u8]] = &[
-    b"Q\0\0\0\x0eLISTEN c;\0",
-    b"Q\0\0\0\x13NOTIFY c, 'x';\0",
-    b"Q\0\0\0\x0bBEGIN;\0",
-    b"Q\0\0\0\x13NOTIFY c, 'y';\0",
-    b"Q\0\0\0\x0eLISTEN 5;\0",
-    b"Q\0\0\0\x0cCOMMIT;\0",
-    b"Q\0\0\0\x20SELECT pg_notify('c', 'z');\0",
-    b"X\0\0\0\x04",
+// Bytes behind two queries, and their fault.
+const FAULTS: [(&[u8], WireFault); 5] = [
+    (b"P\0\0\0\x04", WireFault::BadType { at: 33 }),
+    (b"Q\0\0\0\x04", WireFault::BadLength { at: 33 }),
+    (b"X\0\0\0\x05", WireFault::BadLength { at: 33 }),
+    (b"Q\0\0\0\x06\xff\0", WireFault::BadText { at: 33 }),
+    (b"X\0\0", WireFault::Truncated { at: 33 }),
 ];
 
-// What it is answered: a notification stands behind the command that sent it, and before the word that the next query may come. The
-// block was failed, so that its notification is gone.
-const PSQL_IS_TOLD: &[&[u8]] = &[
-    b"C\0\0\0\x0bLISTEN\0Z\0\0\0\x05I",
-    b"C\0\0\0\x0bNOTIFY\0A\0\0\0\x0c\0\0\x03\xe9c\0x\0Z\0\0\0\x05I",
-    b"C\0\0\0\x0aBEGIN\0Z\0\0\0\x05T",
-    b"C\0\0\0\x0bNOTIFY\0Z\0\0\0\x05T",
-    b"E\0\0\0\x32SERROR\0VERROR\0C42601\0Msyntax error at byte 7\0\0Z\0\0\0\x05E",
-    b"C\0\0\0\x0dROLLBACK\0Z\0\0\0\x05I",
-    b"T\0\0\0\x22\0\x01pg_notify\0\0\0\0\0\0\0\0\0\0\x19\xff\xff\xff\xff\xff\xff\0\0D\0\0\0\x0a\0\x01\0\0\0\0C\0\0\0\x0dSELECT 1\0A\0\0\0\x0c\0\0\x03\xe9c\0z\0Z\0\0\0\x05I",
-];
-
-// Texts one after another.
-fn whole(alloc: Global, pieces: &[&[u8]]) -> Result<Vec<u8>, AllocError> {
-    let mut bytes = Vec::new(alloc);
-    for piece in pieces {
-        bytes.extend_from_slice(piece)?;
-    }
-    Ok(bytes)
-}
-
 #[test]
-fn a_conversation_as_psql_holds_it(rt: HostRuntime) -> Result<(), Fail> {
-    let alloc = rt.alloc();
-    let bytes = whole(alloc, PSQL_ASKS)?;
-    let want = whole(alloc, PSQL_IS_TOLD)?;
-    for most in [1, 64] {
-        let side = Side { most, ..PLAIN };
-        let (end, sink) = serve(&rt, alloc, &bytes, side, side)?;
-        assert!(rt; end == Ok(()));
-        assert!(rt; sink.held() == want.as_slice());
+fn faults_behind_queries(rt: HostRuntime) {
+    for (more, fault) in FAULTS {
+        assert!(rt; is_told_before(&rt, rt.alloc(), more, fault));
     }
-    Ok(())
 }
