@@ -1,2 +1,4 @@
 mod SlotLaws
+mod PartLaws
 pub mod ShownLaws
+pub mod BareLaws

@@ -4,6 +4,8 @@ pub mod OverLaws
 mod CommandLaws
 pub mod AskedLaws
 pub mod LiveLaws
+-- what is written last of a live run
+mod BareLaws
 -- a hub that is opened for one client
 pub mod ClientLaws
 -- how many notifications a section may send is no matter of its trace

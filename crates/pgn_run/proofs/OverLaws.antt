@@ -1,5 +1,5 @@
 -- From the text of a run that was written to what is said of the run of a scenario, and from that to what is said of its input.
-use Rattle.std.proofs.Common.{◌≡◌, ℕ, ◌⊎◌, List, Option, Result, Ok, Err, sym, subst, ◌∙◌, refl, inl, inr}
+use Rattle.std.proofs.Common.{◌≡◌, ℕ, ◌⊎◌, List, Option, Result, Ok, Err, map, sym, ap, subst, ◌∙◌, refl, inl, inr}
 use Rattle.std.specs.Io.KnownBytes.{Appends}
 use Rattle.pgn_base.specs.Outside.{AppendsPrefix, Rose}
 use Rattle.pgn_journal.specs.declared.tx.Tx.{Tx}
@@ -10,28 +10,38 @@ use Rattle.pgn_language.specs.Inputs.{ReadsAsScenario}
 use Rattle.pgn_language.proofs.InputLaws.{reads-input}
 use Rattle.pgn_frames.specs.declared.frame_fault.FrameFault.{FrameFault}
 use Rattle.pgn_queries.specs.declared.wire_fault.WireFault.{WireFault}
-use Rattle.pgn_model.specs.Legal.{Legal}
 use Rattle.pgn_model.specs.Walk.{Settings}
+use Rattle.pgn_merge.specs.Bare.{IsLegalBare, bare}
+use Rattle.pgn_merge.proofs.BareLaws.{text-bare, brief-bare}
 use Rattle.pgn_run.specs.declared.status.Status.{Status}
 use Rattle.pgn_run.specs.declared.status.Status.TheVariants.{Done, BadWords, BadScenario, ReadFault, WriteFault, NoMemory, BadWire, BadFrame, Illegal, NoOutput, CheckTooLarge}
 use Rattle.pgn_run.specs.Run.{Runs, RunsOver, HasWritten, Answers, IsOfRun, printed}
 use Rattle.pgn_run.specs.Live.{EarlyOver, LiveOver, SoFarOver}
 use Rattle.pgn_run.specs.declared.print.Shows.TheVariants.{AtEnd, Live}
 use Rattle.pgn_run.specs.declared.print.Print.{Print}
+use Rattle.pgn_run.specs.declared.print.Print.TheVariants.{Text, Summary}
+
+-- what is written of a run shows nothing of what a bare one lacks
+printed-bare : (print : Print) (scenario : Scenario) (journal : List Tx) (traces : List Trace) → printed print scenario journal (map bare traces) ≡ printed print scenario journal traces
+printed-bare Text scenario journal traces = text-bare scenario journal traces
+printed-bare (Summary seed notes) scenario journal traces = brief-bare seed notes journal traces
 
 module _ (print : Print) (scenario : Scenario) (settings : Settings) (journal : List Tx) (traces : List Trace) (old new : Option (List ℕ)) (before now : ℕ) (status : Status)
-    (legal : Legal scenario settings journal traces) (written : HasWritten (printed print scenario journal traces) old new before now status) where
+    (legal : IsLegalBare scenario settings journal traces) (written : HasWritten (printed print scenario journal traces) old new before now status) where
   -- what was written where the outcome is known
-  outcome : (other : Status) → status ≡ other → HasWritten (printed print scenario journal traces) old new before now other
-  outcome other e = subst (λ (s : Status). HasWritten (printed print scenario journal traces) old new before now s) e written
+  outcome : (other : Status) → status ≡ other → HasWritten (printed print scenario journal legal.whole) old new before now other
+  outcome other e =
+      subst (λ (all : List ℕ). HasWritten all old new before now other)
+      (ap (λ (ts : List Trace). printed print scenario journal ts) legal.are_bare ∙ printed-bare print scenario journal legal.whole)
+      (subst (λ (s : Status). HasWritten (printed print scenario journal traces) old new before now s) e written)
 
   -- a run of which all was written is one of which it is known what was
   pub done-over : status ≡ Done → RunsOver print scenario settings (Appends old new)
-  done-over e = record { journal = journal; traces = traces; legal = legal; output = outcome Done e }
+  done-over e = record { journal = journal; traces = legal.whole; legal = legal.legal; output = outcome Done e }
 
   -- and one with a write fault is one of which a prefix was
   pub prefix-over : status ≡ WriteFault → RunsOver print scenario settings (AppendsPrefix old new)
-  prefix-over e = record { journal = journal; traces = traces; legal = legal; output = (outcome WriteFault e).0 }
+  prefix-over e = record { journal = journal; traces = legal.whole; legal = legal.legal; output = (outcome WriteFault e).0 }
 
 -- a write fault has its cause
 pub fault-over : (all : List ℕ) (old new : Option (List ℕ)) (before now : ℕ) (status : Status) → HasWritten all old new before now status → status ≡ WriteFault → Rose before now

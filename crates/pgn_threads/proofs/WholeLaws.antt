@@ -1,6 +1,7 @@
 -- From whole sessions that are over to a legal run.
-use Rattle.std.proofs.Common.{◌≡◌, ℕ, suc, ◌+◌, List, [], ◌∷◌, length, map, get_or, All, sym, ap, ◌∙◌, refl, subst, arith}
+use Rattle.std.proofs.Common.{◌≡◌, ℕ, suc, ◌+◌, List, [], ◌∷◌, ◌++◌, length, map, take, get_or, All, sym, ap, ◌∙◌, refl, subst, arith}
 use Rattle.std.specs.List.{range_with_len}
+use Rattle.std.proofs.lemmas.List.{length-map}
 use Rattle.std.proofs.lemmas.List.Elements.{All-map, All-same}
 use Rattle.pgn_journal.specs.declared.tx.Tx.{Tx}
 use Rattle.pgn_hub.specs.declared.known.Known.{Known}
@@ -11,6 +12,7 @@ use Rattle.pgn_language.specs.Inputs.{AreNumbered, IsSound}
 use Rattle.pgn_hub.specs.Shape.{Shape}
 use Rattle.pgn_model.specs.Walk.{Settings}
 use Rattle.pgn_model.specs.Legal.{Legal}
+use Rattle.pgn_merge.specs.Bare.{bare}
 use Rattle.pgn_merge.specs.Shown.{ShowsJournal}
 use Rattle.pgn_merge.proofs.ShownLaws.{legal-shows_journal}
 use Rattle.pgn_hub.specs.Passes.{IsWithin}
@@ -26,7 +28,7 @@ use Rattle.pgn_session.specs.Runs.{IsOver, IsReady, Script, script_of}
 use Rattle.pgn_threads.specs.Drain.{passes_of}
 use Rattle.pgn_threads.specs.Opened.{script_for}
 use Rattle.pgn_threads.specs.Laws.{NamesFlagsBelow}
-use Rattle.pgn_threads.proofs.ListLemmas.{All-unmap}
+use Rattle.pgn_threads.proofs.ListLemmas.{All-unmap, written-back}
 use Rattle.pgn_threads.proofs.OpenLaws.{all-named}
 use Rattle.pgn_threads.proofs.RunLaws.{runs-are_legal}
 
@@ -160,6 +162,14 @@ pub merged-legal : (scenario : Scenario) (settings given : Settings) (journal me
 merged-legal scenario settings given journal merged traces e legal is =
     subst (λ (s : Settings). Legal scenario s merged traces) e
     (subst (λ (j : List Tx). Legal scenario settings j traces) (sym (is journal (legal-shows_journal scenario settings journal traces legal))) legal)
+
+-- traces that were left bare where they lay
+pub bare-back : (left was old : List Trace) (n : ℕ) → left ≡ map bare was → length was ≡ n → take n (left ++ old) ≡ map bare was
+bare-back left was old n e as_many = written-back left old n (sym (ap (λ (ts : List Trace). length ts) e ∙ length-map was bare ∙ as_many)) ∙ e
+
+-- the sessions of bare traces
+pub bare-sessions : (traces : List Trace) → map (λ trace. trace.session) (map bare traces) ≡ map (λ trace. trace.session) traces
+bare-sessions traces = map-twice (λ (trace : Trace). trace.session) bare traces
 
 -- the passes of sessions, as they were taken out
 pub passes-same : {P : Type 0} (known : P → Known) (sessions : List (Session P)) (passes : List P) → passes ≡ map (λ s. s.pass) sessions → passes_of known sessions ≡ map known passes

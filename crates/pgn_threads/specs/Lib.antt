@@ -8,5 +8,7 @@ pub mod Work
 pub mod Drain
 -- what the sessions of a scenario are given
 pub mod Opened
+-- what they come to
+pub mod Ended
 -- laws of a whole run
 pub mod Laws

@@ -27,6 +27,7 @@
 #![tactic(auto)]
 
 mod draining;
+pub mod examples;
 mod hub_sessions;
 pub mod laws;
 mod opening;

@@ -1,14 +1,12 @@
-ghost use Rattle.std.specs.Prelude.{◌≡◌, ◌≤◌, ℕ, map, length, IfOk, All};
+ghost use Rattle.std.specs.Prelude.{◌≡◌, ◌≤◌, map, length, IfOk, All};
 ghost use Rattle.std.specs.List.{range_with_len};
 ghost use Rattle.pgn_base.specs.declared.limits.TheConstants.{PAGES_MIN, PAGES_MAX};
-ghost use Rattle.pgn_base.specs.declared.format.Format.{Format};
-ghost use Rattle.pgn_language.specs.declared.scenario.Scenario.{Scenario};
 ghost use Rattle.pgn_language.specs.Inputs.{IsSound};
-ghost use Rattle.pgn_model.specs.Legal.{Legal};
 ghost use Rattle.pgn_hub.specs.Passes.{IsWithin};
-ghost use Rattle.pgn_session.specs.Runs.{IsReady, IsOver, script_of, shown_of};
-ghost use Rattle.pgn_threads.specs.Drain.{EachMayEndWithRead};
-ghost use Rattle.pgn_threads.specs.Opened.{AreOpenedFor, plan_for, scenario_of, script_for, shape_for};
+ghost use Rattle.pgn_merge.specs.Bare.{IsLegalBare};
+ghost use Rattle.pgn_session.specs.Runs.{IsReady, IsOver, script_of};
+ghost use Rattle.pgn_threads.specs.Ended.{HaveEnded};
+ghost use Rattle.pgn_threads.specs.Opened.{plan_for, scenario_of, script_for, shape_for};
 
 use crate::opening::{Shared, logs, open_sessions, seats_for};
 use crate::{drain, run_sessions};
@@ -24,7 +22,7 @@ use std::sync::Wait;
 use std::thread::Threads;
 use std::time::Clock;
 
-/// A run of a scenario: the journal, and the trace of each session.
+/// A run of a scenario: the journal, and the trace of each session, bare: the notifications that the journal has are not there too.
 #[derive(Drop)]
 pub struct Run {
     pub journal: Vec<Tx>,
@@ -48,7 +46,7 @@ pub fn run_on_hub<H: Hub + Sync + Drop, R: Threads + Wait + Clock + Sync>(
     requires few_pages { pages ≤ PAGES_MAX }
     requires patient { 1 ≤ patience }
     ensures back { IfOk result (λ played. played.0 ≡ scenario) }
-    ensures legal { IfOk result (λ played. Legal scenario
+    ensures legal { IfOk result (λ played. IsLegalBare scenario
         (record { format = format; limit = pages; patience = patience })
         played.1.journal.items played.1.traces.items) }
 {
@@ -152,17 +150,15 @@ pub fn finish_run<H: Hub + Drop>(
 ) -> Result<(Run, Sections), AllocError>
     requires over { All (IsOver (H.is_pass hub) (H.shape hub) H.Pass.known) sessions.items }
     requires all { map (λ s. s.section.no) sessions.items ≡ range_with_len 1 (length (H.shape hub).seats) }
-    ensures legal { IfOk result (λ ended. (scenario : Scenario) (pages patience : ℕ) (format : Format) → AreOpenedFor scenario pages patience format (H.shape hub) sessions.items
-        → Legal scenario (record { format = format; limit = pages; patience = patience }) ended.0.journal.items ended.0.traces.items) }
+    ensures ended { IfOk result (λ ended. HaveEnded (H.shape hub) sessions.items ended.0.journal.items ended.0.traces.items) }
     ensures sessions { IfOk result (λ ended. map (λ trace. trace.session) ended.0.traces.items ≡ map (λ s. s.section.no) sessions.items) }
-    ensures shown { IfOk result (λ ended. EachMayEndWithRead (map shown_of sessions.items) (map (λ trace. trace.items) ended.0.traces.items)) }
     ensures sections { IfOk result (λ ended. ended.1 ≡ map (λ s. s.section) sessions.items) }
 {
     drain(alloc, &hub, sessions.as_mut_slice())?;
-    let (passes, traces, sections) = logs(alloc, sessions)?;
+    let (passes, mut traces, sections) = logs(alloc, sessions)?;
     are_within(&hub, passes.as_slice());
     let _roll = hub.gather(passes);
-    let journal = merge(alloc, traces.as_slice())?;
+    let journal = merge(alloc, traces.as_mut_slice())?;
     let sections = Sections::from_items(sections);
     Ok((Run { journal, traces }, sections))
 }

@@ -124,8 +124,8 @@ fn is(tx: Option<&Tx>, session: u32, fate: Fate, queued: u32, payload: &str) -> 
 #[test]
 fn by_number(rt: HostRuntime) -> Result<(), Fail> {
     let alloc = rt.alloc();
-    let traces = in_turns(alloc)?;
-    let journal = merge(alloc, traces.as_slice())?;
+    let mut traces = in_turns(alloc)?;
+    let journal = merge(alloc, traces.as_mut_slice())?;
     assert_eq!(rt; journal.len(), 3);
     assert!(rt; is(journal.get(0), 2, Fate::Committed, 1, "a"));
     assert!(rt; is(journal.get(1), 1, Fate::Committed, 1, "b"));
@@ -144,8 +144,8 @@ fn databases(journal: &[Tx]) -> Option<[u32; 3]> {
 #[test]
 fn of_each_database(rt: HostRuntime) -> Result<(), Fail> {
     let alloc = rt.alloc();
-    let traces = in_turns(alloc)?;
-    let journal = merge(alloc, traces.as_slice())?;
+    let mut traces = in_turns(alloc)?;
+    let journal = merge(alloc, traces.as_mut_slice())?;
     assert_eq!(rt; databases(&journal), Some([8, 7, 8]));
     Ok(())
 }
@@ -153,8 +153,8 @@ fn of_each_database(rt: HostRuntime) -> Result<(), Fail> {
 #[test]
 fn with_the_aborted_ones(rt: HostRuntime) -> Result<(), Fail> {
     let alloc = rt.alloc();
-    let traces = aborted(alloc)?;
-    let journal = merge(alloc, traces.as_slice())?;
+    let mut traces = aborted(alloc)?;
+    let journal = merge(alloc, traces.as_mut_slice())?;
     assert_eq!(rt; journal.len(), 3);
     assert!(rt; is(journal.get(0), 256, Fate::Aborted, 0, "a"));
     assert!(rt; is(journal.get(1), 256, Fate::Aborted, 1, "c"));
@@ -166,8 +166,8 @@ fn with_the_aborted_ones(rt: HostRuntime) -> Result<(), Fail> {
 fn of_nothing(rt: HostRuntime) -> Result<(), AllocError> {
     let alloc = rt.alloc();
     let mut traces = Vec::new(alloc);
-    assert!(rt; merge(alloc, traces.as_slice())?.is_empty());
+    assert!(rt; merge(alloc, traces.as_mut_slice())?.is_empty());
     traces.push(trace(alloc, SessionNo::new(1), DbOid::new(1)))?;
-    assert!(rt; merge(alloc, traces.as_slice())?.is_empty());
+    assert!(rt; merge(alloc, traces.as_mut_slice())?.is_empty());
     Ok(())
 }

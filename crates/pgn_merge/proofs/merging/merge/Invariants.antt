@@ -1,8 +1,12 @@
-use Rattle.std.proofs.Common.{List, take}
+use Rattle.std.proofs.Common.{◌≡◌, List, ◌++◌, map, take, drop}
 use Rattle.pgn_journal.specs.declared.tx.Tx.{Tx}
+use Rattle.pgn_merge.specs.Bare.{bare}
 use Rattle.pgn_merge.specs.Shown.{ShowsJournal}
 use Rattle.pgn_merge.specs.Slots.{HasPlacedAll}
 use Rattle.pgn_merge.proofs.merging.merge.Given as goal
 
 abbrev pub invariant-loop-trace : goal.invariant-loop-trace
-invariant-loop-trace l = (journal : List Tx) → ShowsJournal journal l.fn.traces → HasPlacedAll journal (take l.trace-index l.fn.traces) l.slots.items
+invariant-loop-trace l = record {
+  bare : l.traces ≡ map bare (take l.trace-index l.fn.traces) ++ drop l.trace-index l.fn.traces;
+  placed : (journal : List Tx) → ShowsJournal journal l.fn.traces → HasPlacedAll journal (take l.trace-index l.fn.traces) l.slots.items;
+}

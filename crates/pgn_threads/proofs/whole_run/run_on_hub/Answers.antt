@@ -50,5 +50,11 @@ returns-clause-legal g c =
     let count = same-count script_of new c.as_mut_slice.result.now c.run_sessions.ensures.scripts ∙ c.as_mut_slice.ensures.len in
     let back = written-back new (drop (length new) c.in_ok-hub.sessions.items) c.in_ok-hub.sessions.len (sym count) in
     let scripts = c.run_sessions.ensures.scripts ∙ ap (λ (sessions : List (Session g.row.H-Pass.Denot)). map script_of sessions) c.as_mut_slice.ensures.value ∙ c.in_ok-hub.ensures.scripts in
-    c.in_ok-run.ensures.legal c.args.scenario c.args.pages c.args.patience c.args.format
-    (record { sound = c.requires.sound; opened = c.in_ok-hub.ensures.shape; scripts = ap (λ (sessions : List (Session g.row.H-Pass.Denot)). map script_of sessions) back ∙ scripts })
+    let ended = c.in_ok-run.ensures.ended in
+    record {
+      whole = ended.whole;
+      are_bare = ended.are_bare;
+      legal =
+          ended.legal c.args.scenario c.args.pages c.args.patience c.args.format
+          (record { sound = c.requires.sound; opened = c.in_ok-hub.ensures.shape; scripts = ap (λ (sessions : List (Session g.row.H-Pass.Denot)). map script_of sessions) back ∙ scripts });
+    }
