@@ -17,8 +17,8 @@ use std::sync::Wait;
 use std::thread;
 
 // Looks at an empty queue give way at first, so many of them; behind those the writer arms its bell, looks once more, and dozes. So what
-// comes in a steady flow is written in pieces, and not in a race for each line.
-const LOOKS_BEFORE_DOZE: u32 = 64;
+// comes in a steady flow is written in pieces, and not in a race for each line. More of them make a lone line late.
+const LOOKS_BEFORE_DOZE: u32 = 4;
 
 // Who writes what comes: a pass that takes, its place in the lines of each section, and the text that it keeps back.
 #[derive(Drop)]
