@@ -69,6 +69,7 @@ module _ (Q : Change → Type 0) where
       (All-cons Q change (released name changes) (All-head Q change changes h) (released-all name changes rest))
       (either (λ (cs : List Change). All Q cs) (is_savepoint_of name change) (filter (λ later. not (is_savepoint later)) changes) (change ∷ changes) (All-filter (λ later. not (is_savepoint later)) Q changes rest) h)
 
+  -- what holds of all changes holds of those that survive
   survivors-all : (kept changes : List Change) → All Q kept → All Q changes → All Q (survivors_from kept changes)
   survivors-all kept [] h k = h
   survivors-all kept (RolledBack name ∷ changes) h k = survivors-all (rolled_back name kept) changes (rolled_back-all name kept h) (All-tail Q (RolledBack name) changes k)
