@@ -1,6 +1,8 @@
 -- Laws of a text whose quotes stand twice, written by runs that end with a quote.
 use Rattle.std.proofs.Common.{◌≡◌, ℕ, ◌+◌, ◌-◌, ◌<◌, ◌≤◌, Bool, true, suc, cond, List, [], ◌∷◌, ◌++◌, length, take, drop, get_or, sym, ap, ◌∙◌, refl, inl, inr, arith, append_assoc, add-one, drop-cons}
 use Rattle.std.specs.Prelude.{flat_map, ◌==◌}
+use Rattle.std.proofs.lemmas.List.{take_more}
+use Rattle.std.proofs.lemmas.List.Concat.{flat_map-append}
 use Rattle.std.proofs.lemmas.List.Edits.{between_more}
 use Rattle.std.proofs.lemmas.Bool.{false_from_ne_true}
 use Rattle.std.proofs.lemmas.Bool.Decides.{eqb_tells}
@@ -48,3 +50,9 @@ doubled-none quote [] none = refl
 doubled-none quote (byte ∷ bytes) none =
     let first : doubled_byte quote byte ≡ byte ∷ [] = ap (λ (t : Bool). cond t (quote ∷ quote ∷ []) (byte ∷ [])) (false_from_ne_true (byte == quote) (none 0 (omega arith))) in
     ap (λ t. t ++ flat_map (doubled_byte quote) bytes) first ∙ ap (λ t. byte ∷ t) (doubled-none quote bytes (λ k l e. none (suc k) (omega (arith, l)) e))
+
+-- a byte that is no quote, behind those before it
+pub doubled-more : (quote : ℕ) (text : List ℕ) (i : ℕ) → i < length text → (get_or text i 0 ≡ quote → ⊥) → flat_map (doubled_byte quote) (take i text) ++ get_or text i 0 ∷ [] ≡ flat_map (doubled_byte quote) (take (i + 1) text)
+doubled-more quote text i lt other =
+    let f : ℕ → List ℕ = doubled_byte quote in
+    sym (ap (flat_map f) (take_more text i 0 lt) ∙ flat_map-append f (take i text) (get_or text i 0 ∷ []) ∙ ap (λ t. flat_map f (take i text) ++ (t ++ [])) (doubled_byte-other quote (get_or text i 0) other))

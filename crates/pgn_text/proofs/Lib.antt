@@ -1,3 +1,4 @@
 pub mod PutsLaws
 pub mod LineLaws
 pub mod DoublingLaws
+pub mod DigitsLaws

@@ -100,6 +100,11 @@ Puts-kept held faults sink kept now (Ok x) text e = record {
   cause = λ start h. h;
 }
 
+-- three texts are kept back
+pub three-kept : (kept one two three first second third : List ℕ) → one ≡ kept ++ first → two ≡ one ++ second → three ≡ two ++ third → three ≡ kept ++ (first ++ second ++ third)
+three-kept kept one two three first second third e f g =
+    g ∙ ap (λ t. t ++ third) (f ∙ ap (λ t. t ++ second) e ∙ append_assoc kept first second) ∙ append_assoc kept (first ++ second) third
+
 -- what is kept back and a text after it are written, or a prefix of them
 written : (start held now : Option (List ℕ)) (kept before text all : List ℕ) (result : Result Unit Failed) → kept ++ text ≡ all → Writes held now result all → GrewBut start held kept before
     → IsOut start now (record { kept = []; so_far = result }) (before ++ text)

@@ -61,13 +61,10 @@ impl Out {
         ensures { Puts K.held K.faults sink.old self.old sink.new self.new
             (joined (marked mark (warning_lines warning.now ++ tag_text tag.now ∷ []))) }
     {
-        match warning {
-            None => self.tag_line(sink, mark, tag),
-            Some(warning) => {
-                self.text_line(sink, mark, b"WARNING: ", text_of_warning(*warning));
-                self.tag_line(sink, mark, tag);
-            }
+        if let Some(warning) = warning {
+            self.text_line(sink, mark, b"WARNING: ", text_of_warning(*warning));
         }
+        self.tag_line(sink, mark, tag);
     }
 
     // From where to where a read moved the mark, and what it received.

@@ -18,14 +18,11 @@ impl Out {
         let count = tx.notes.as_slice().len() as u64;
         match tx.fate {
             Fate::Committed => {
-                self.text(sink, b" commit ");
-                self.number(sink, count);
+                self.labelled(sink, b" commit ", count);
             }
             Fate::Aborted => {
-                self.text(sink, b" abort ");
-                self.number(sink, u64::from(tx.queued));
-                self.text(sink, b" of ");
-                self.number(sink, count);
+                self.labelled(sink, b" abort ", u64::from(tx.queued));
+                self.labelled(sink, b" of ", count);
             }
         }
     }
@@ -35,10 +32,8 @@ impl Out {
         ensures { Puts K.held K.faults sink.old self.old sink.new self.new
             (codes "xid " ++ decimal x ++ codes " session " ++ decimal session) }
     {
-        self.text(sink, b"xid ");
-        self.number(sink, x);
-        self.text(sink, b" session ");
-        self.number(sink, session);
+        self.labelled(sink, b"xid ", x);
+        self.labelled(sink, b" session ", session);
     }
 
     // The lines of the transaction numbered x.

@@ -8,6 +8,8 @@
 //! The lines are those of `item_lines`, `trace_lines` and `journal_lines` of `pgn_model`. Nothing here takes memory.
 #![tactic(auto)]
 
+mod buffer;
+mod digits;
 mod item;
 mod journal;
 mod line;
@@ -15,6 +17,7 @@ mod line_cursor;
 mod note;
 mod one_item;
 mod out;
+mod pieces;
 mod queue_line;
 mod refusal;
 mod section;

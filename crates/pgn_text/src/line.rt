@@ -1,6 +1,6 @@
 #![tactic(auto, using(crate::proofs::PutsLaws::put_laws))]
 
-ghost use Rattle.std.specs.Prelude.{◌++◌, codes, decimal};
+ghost use Rattle.std.specs.Prelude.{◌≤◌, ◌++◌, codes, decimal, length};
 ghost use Rattle.pgn_text.specs.Rendering.{Puts, ended, mark_of};
 
 use crate::Out;
@@ -9,7 +9,7 @@ use pgn_base::{Sink, Xid};
 
 impl Out {
     // What stands before each line.
-    #[inline]
+    #[inline(always)]
     pub(crate) fn mark<K: Sink>(&mut self, sink: &mut K, mark: Option<u32>)
         ensures { Puts K.held K.faults sink.old self.old sink.new self.new (mark_of mark) }
     {
@@ -21,7 +21,7 @@ impl Out {
     }
 
     // The line of a start and a text.
-    #[inline]
+    #[inline(always)]
     pub(crate) fn text_line<K: Sink>(
         &mut self,
         sink: &mut K,
@@ -29,17 +29,16 @@ impl Out {
         start: &[u8],
         text: &[u8],
     )
+        requires { length start.now ≤ 98 }
         ensures { Puts K.held K.faults sink.old self.old sink.new self.new
             (ended (mark_of mark ++ (start.now ++ text.now))) }
     {
         self.mark(sink, mark);
-        self.text(sink, start);
-        self.text(sink, text);
-        self.text(sink, b"\n");
+        self.text_in(sink, start, text, b"\n");
     }
 
     // The line of a start and a transaction number.
-    #[inline]
+    #[inline(always)]
     pub(crate) fn xid_line<K: Sink>(
         &mut self,
         sink: &mut K,
@@ -47,6 +46,7 @@ impl Out {
         start: &[u8],
         xid: &Xid,
     )
+        requires { length start.now ≤ 98 }
         ensures { Puts K.held K.faults sink.old self.old sink.new self.new
             (ended (mark_of mark ++ (start.now ++ decimal xid.now))) }
     {
@@ -54,7 +54,7 @@ impl Out {
     }
 
     // The line of a start and two transaction numbers.
-    #[inline]
+    #[inline(always)]
     pub(crate) fn span_line<K: Sink>(
         &mut self,
         sink: &mut K,
@@ -62,37 +62,38 @@ impl Out {
         start: &[u8],
         span: &Span,
     )
+        requires { length start.now ≤ 98 }
         ensures { Puts K.held K.faults sink.old self.old sink.new self.new
             (ended (mark_of mark
             ++ (start.now ++ decimal span.now.from ++ codes " " ++ decimal span.now.to))) }
     {
         self.mark(sink, mark);
-        self.labelled(sink, start, u64::from(span.from.get()));
-        self.text(sink, b" ");
-        self.number(sink, u64::from(span.to.get()));
-        self.text(sink, b"\n");
+        self.number_in(sink, start, u64::from(span.from.get()), b" ");
+        self.number_end(sink, b"", u64::from(span.to.get()));
     }
 
     // A start and a number.
+    #[inline(always)]
     pub(crate) fn labelled<K: Sink>(&mut self, sink: &mut K, start: &[u8], number: u64)
+        requires { length start.now ≤ 98 }
         ensures { Puts K.held K.faults sink.old self.old sink.new self.new
             (start.now ++ decimal number) }
     {
-        self.text(sink, start);
-        self.number(sink, number);
+        self.number_in(sink, start, number, b"");
     }
 
     // A start and a number, at the end of a line.
+    #[inline(always)]
     pub(crate) fn number_end<K: Sink>(&mut self, sink: &mut K, start: &[u8], number: u64)
+        requires { length start.now ≤ 98 }
         ensures { Puts K.held K.faults sink.old self.old sink.new self.new
             (ended (start.now ++ decimal number)) }
     {
-        self.labelled(sink, start, number);
-        self.text(sink, b"\n");
+        self.number_in(sink, start, number, b"\n");
     }
 
     // The line of a start and a number.
-    #[inline]
+    #[inline(always)]
     pub(crate) fn number_line<K: Sink>(
         &mut self,
         sink: &mut K,
@@ -100,6 +101,7 @@ impl Out {
         start: &[u8],
         number: u64,
     )
+        requires { length start.now ≤ 98 }
         ensures { Puts K.held K.faults sink.old self.old sink.new self.new
             (ended (mark_of mark ++ (start.now ++ decimal number))) }
     {

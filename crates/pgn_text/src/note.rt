@@ -1,52 +1,33 @@
 #![tactic(auto, using(crate::proofs::PutsLaws::put_laws))]
 
-ghost use Rattle.std.specs.Prelude.{◌++◌, codes, decimal, flat_map, map};
+ghost use Rattle.std.specs.Prelude.{◌≤◌, ◌++◌, codes, decimal, length, map};
 ghost use Rattle.pgn_model.specs.Text.{channel_line, delivery_line, joined, note_line};
-ghost use Rattle.pgn_language.specs.Quotes.{doubled_byte};
 ghost use Rattle.pgn_text.specs.Rendering.{Puts, ended, mark_of, marked, note_behind};
 
 use crate::Out;
-use memchr::memchr;
+use crate::pieces::Quotes;
 use pgn_base::{Delivery, Name, Note, Sink};
 
 impl Out {
-    // A text with each quote twice, put in runs that end with a quote; the next run begins with it again.
-    #[tactic(auto, using(crate::proofs::PutsLaws::loop_laws))]
-    fn runs<K: Sink>(&mut self, sink: &mut K, quote: u8, text: &[u8])
+    // A notification behind a text and its first quote, at the end of a line.
+    #[inline(always)]
+    fn note<K: Sink>(&mut self, sink: &mut K, front: &[u8], note: &Note)
+        requires { length front.now ≤ 9 }
         ensures { Puts K.held K.faults sink.old self.old sink.new self.new
-            (flat_map (doubled_byte quote) text.now) }
+            (front.now ++ ended (note_behind note.now)) }
     {
-        let mut start = 0;
-        for i in 0..text.len() {
-            if text[i] != quote {
-                continue;
-            }
-            self.text(sink, &text[start..i + 1]);
-            start = i;
-        }
-        self.text(sink, &text[start..]);
-    }
-
-    // A text with each quote twice, if it has any.
-    fn doubled<K: Sink>(&mut self, sink: &mut K, quote: u8, text: &[u8])
-        ensures { Puts K.held K.faults sink.old self.old sink.new self.new
-            (flat_map (doubled_byte quote) text.now) }
-    {
-        match memchr(quote, text) {
-            Some(_) => self.runs(sink, quote, text),
-            None => self.text(sink, text),
-        }
-    }
-
-    // A notification behind its first quote, at the end of a line.
-    fn note<K: Sink>(&mut self, sink: &mut K, note: &Note)
-        ensures { Puts K.held K.faults sink.old self.old sink.new self.new
-            (ended (note_behind note.now)) }
-    {
-        self.doubled(sink, b'"', note.channel.as_bytes());
-        self.text(sink, b"\", '");
-        self.doubled(sink, b'\'', note.payload.as_bytes());
-        self.text(sink, b"'\n");
+        let channel = Quotes {
+            front,
+            quote: b'"',
+            back: b"\", '",
+        };
+        let payload = Quotes {
+            front: b"",
+            quote: b'\'',
+            back: b"'\n",
+        };
+        self.quoted_in(sink, channel, note.channel.as_bytes());
+        self.quoted_in(sink, payload, note.payload.as_bytes());
     }
 
     // The line of a notification of the journal.
@@ -54,8 +35,7 @@ impl Out {
         ensures { Puts K.held K.faults sink.old self.old sink.new self.new
             (ended (note_line note.now)) }
     {
-        self.text(sink, b"  \"");
-        self.note(sink, note);
+        self.note(sink, b"  \"", note);
     }
 
     /// The lines of the notifications of a transaction.
@@ -70,16 +50,14 @@ impl Out {
     }
 
     // Where a notification that was received comes from, and its first quote.
+    #[inline(always)]
     fn sender<K: Sink>(&mut self, sink: &mut K, delivery: &Delivery)
         ensures { Puts K.held K.faults sink.old self.old sink.new self.new
             (codes "  " ++ decimal delivery.now.xid ++ codes " "
             ++ decimal delivery.now.pid ++ codes " \"") }
     {
-        self.text(sink, b"  ");
-        self.number(sink, u64::from(delivery.xid.get()));
-        self.text(sink, b" ");
-        self.number(sink, u64::from(delivery.pid));
-        self.text(sink, b" \"");
+        self.number_in(sink, b"  ", u64::from(delivery.xid.get()), b" ");
+        self.number_in(sink, b"", u64::from(delivery.pid), b" \"");
     }
 
     // The line of a notification that was received.
@@ -89,7 +67,7 @@ impl Out {
     {
         self.mark(sink, mark);
         self.sender(sink, delivery);
-        self.note(sink, &delivery.note);
+        self.note(sink, b"", &delivery.note);
     }
 
     // The lines of the notifications that a read received.
@@ -114,9 +92,12 @@ impl Out {
             (ended (mark_of mark ++ channel_line name.now)) }
     {
         self.mark(sink, mark);
-        self.text(sink, b"  \"");
-        self.doubled(sink, b'"', name.as_bytes());
-        self.text(sink, b"\"\n");
+        let quotes = Quotes {
+            front: b"  \"",
+            quote: b'"',
+            back: b"\"\n",
+        };
+        self.quoted_in(sink, quotes, name.as_bytes());
     }
 
     // The rows of the channels that a session listens to.

@@ -3,73 +3,13 @@
 ghost use Rattle.std.specs.Prelude.{◌≡◌, ◌+◌, ◌≤◌, [], ◌++◌, Ok, OnOk, decimal, length};
 ghost use Rattle.pgn_text.specs.Rendering.{Puts};
 
+use crate::buffer::{Buffer, SIZE};
 use pgn_base::{Failed, Sink, write_all};
-use std::marker::Model;
-
-// How many bytes a buffer keeps back at most.
-const SIZE: usize = 8192;
-
-// Bytes that are kept back until there are enough of them for a write. Contracts see those bytes.
-#[derive(Drop)]
-struct Buffer {
-    bytes: [u8; SIZE],
-    used: usize,
-}
-
-impl Model for Buffer {
-    ghost use Rattle.std.specs.Prelude.{List, ℕ, ◌≤◌, take};
-    ghost use Rattle.pgn_text.specs.declared.out.TheConstants.{SIZE};
-
-    ghost Value = { List ℕ };
-
-    ghost view = { λ buffer. take buffer.used buffer.bytes };
-
-    ghost invariant = { λ buffer. buffer.used ≤ SIZE };
-}
-
-impl Buffer {
-    fn new() -> Self
-        ensures { result ≡ [] }
-    {
-        Buffer {
-            bytes: [0; SIZE],
-            used: 0,
-        }
-    }
-
-    fn as_slice(&self) -> &[u8]
-        ensures value { result.now ≡ self.now }
-        ensures within { length self.now ≤ SIZE }
-    {
-        &self.bytes[..self.used]
-    }
-
-    fn room(&self) -> usize
-        ensures { result + length self.now ≡ SIZE }
-    {
-        SIZE - self.used
-    }
-
-    fn clear(&mut self)
-        ensures { self.new ≡ [] }
-    {
-        self.used = 0;
-    }
-
-    fn push(&mut self, piece: &[u8])
-        requires { length self.old + length piece.now ≤ SIZE }
-        ensures { self.new ≡ self.old ++ piece.now }
-    {
-        let end = self.used + piece.len();
-        self.bytes[self.used..end].copy_from_slice(piece);
-        self.used = end;
-    }
-}
 
 /// What is on its way to a sink. After a failed write nothing more is given out; what is kept back then goes nowhere.
 #[derive(Drop)]
 pub struct Out {
-    kept: Buffer,
+    pub(crate) kept: Buffer,
     pub so_far: Result<(), Failed>,
 }
 
@@ -154,11 +94,6 @@ impl Out {
     pub fn number<K: Sink>(&mut self, sink: &mut K, number: u64)
         ensures { Puts K.held K.faults sink.old self.old sink.new self.new (decimal number) }
     {
-        if number < 10 {
-            self.text(sink, &[b'0' + number as u8]);
-            return;
-        }
-        let mut digits = itoa::Buffer::new();
-        self.text(sink, digits.format(number).as_bytes());
+        self.number_in(sink, b"", number, b"");
     }
 }

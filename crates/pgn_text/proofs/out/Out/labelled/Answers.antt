@@ -1,5 +1,6 @@
-use Rattle.pgn_text.proofs.PutsLaws.{Puts-trans}
+use Rattle.std.proofs.Common.{append-nil}
+use Rattle.pgn_text.proofs.PutsLaws.{Puts-same}
 use Rattle.pgn_text.proofs.out.Out.labelled.Goals as goal
 
 pub returns : goal.returns
-returns g c = Puts-trans c.text.ensures c.number.ensures
+returns g c = Puts-same (append-nil _) c.number_in.ensures

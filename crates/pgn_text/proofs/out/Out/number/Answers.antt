@@ -1,5 +1,6 @@
-use Rattle.std.proofs.lemmas.Fmt.{decimal_digit}
+use Rattle.std.proofs.Common.{append-nil}
+use Rattle.pgn_text.proofs.PutsLaws.{Puts-same}
 use Rattle.pgn_text.proofs.out.Out.number.Goals as goal
 
-pub returns-then-number-lt10 : goal.returns-then-number-lt10
-returns-then-number-lt10 g c = rw (decimal_digit c.args.number c.if-number-lt10.true) c.text.ensures
+pub returns : goal.returns
+returns g c = Puts-same (append-nil _) c.number_in.ensures
