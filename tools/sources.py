@@ -430,15 +430,24 @@ def fields_of(tokens, braces):
 
 
 def read_definitions(file):
-    """Reads the items of a file of definitions. Each begins in the first column: `abbrev pub f : ..` with the lines of f, `pub record`
-    and `pub data` with what is indented below them."""
-    starts = [i for i, line in enumerate(file.lines) if line and not line[0].isspace() and not line.startswith('--')]
+    """Reads the items of a file of definitions. Each begins in the first column, or in that of the `module .. where` that it stands in:
+    `abbrev pub f : ..` with the lines of f, `pub record` and `pub data` with what is indented below them."""
+    starts, depths = [], [0]
+    for i, line in enumerate(file.lines):
+        depth = len(line) - len(line.lstrip())
+        if not line.strip() or re.match(r' *--', line):
+            continue
+        while depths[-1] > depth:
+            depths.pop()
+        if depths[-1] == depth:
+            starts.append(i)
+            depths += [depth + 2] if line.startswith('module ', depth) else []
     item = None
     for at, start in enumerate(starts):
         stop = starts[at + 1] if at + 1 < len(starts) else len(file.lines)
-        while stop > start + 1 and (not file.lines[stop - 1].strip() or file.lines[stop - 1].startswith('--')):
+        while stop > start + 1 and (not file.lines[stop - 1].strip() or re.match(r' *--', file.lines[stop - 1])):
             stop -= 1
-        line = file.lines[start]
+        line = file.lines[start].lstrip()
         tokens = tokens_of('\n'.join(file.lines[start:stop]), GHOST_TOKEN, start + 1)
         if line.startswith(('use ', 'pub use ')):
             file.ghosts.update(use_paths(tokens[1 if line.startswith('use') else 2:]))
@@ -1799,12 +1808,43 @@ def text_of(item):
 
 
 def cites(answer):
-    """The clauses of called functions that an answer cites: for each the call, or the case that its result is in, and the clause's name."""
-    return re.findall(r'\bc\.([\w-]+)\.ensures(?:\.(\w+))?', text_of(answer))
+    """The clauses of called functions that an answer cites: for each the call, or the case that its result is in, the clause's name, and where."""
+    return [(found.group(1), found.group(2) or '', found.start()) for found in re.finditer(r'\bc\.([\w-]+)\.ensures(?:\.(\w+))?', text_of(answer))]
 
 
-def cites_loop(answer):
-    return re.search(r'\bc\.loop\b', text_of(answer)) is not None
+LOOP_KEEPS = re.compile(r'\bc\.(?!self\b)([\w-]+)\.invariant(?:\.(\w+))?')
+
+
+def cites_kept(answer, kept):
+    """Where an answer cites what loops keep, of which parts are given, by label and number."""
+    return [found.start() for found in LOOP_KEEPS.finditer(text_of(answer))
+            if any(label in (None, found.group(1)) and (part is None or found.group(2) in (None, str(part)) or not found.group(2).isdigit()) for label, part in kept)]
+
+
+def part_at(text, at):
+    """The number of the part of the tuple with which a text ends in which a place is; none where it is in no part."""
+    depth, commas, last = 0, [], len(text.rstrip()) - 1
+    for i in range(last, -1, -1) if text[last] == ')' else ():
+        depth += {')': 1, '(': -1}.get(text[i], 0)
+        commas += [i] if depth == 1 and text[i] == ',' else []
+        if depth == 0:
+            return sum(comma < at for comma in commas) if i < at and commas and re.search(r'(=|\bin)\s*$', text[:i]) else None
+    return None
+
+
+def kept_on(answers, is_on):
+    """What loops keep that rests on what their answers cite, itself or by what loops keep: labels, with the numbers of parts, as far as they are
+    told. `is_on` gives the places of the citations in an answer."""
+    loops = [answer for answer in answers if goal_of(answer)[0] == 'loop']
+    labels = {found.group(1) for answer in answers for found in LOOP_KEEPS.finditer(text_of(answer))} if loops else set()
+    kept = set()
+    while True:
+        before = len(kept)
+        for answer in loops:
+            label = re.sub(r'-(preserved|init)\b.*', '', answer.name)
+            kept |= {(label if label in labels else None, part_at(text_of(answer), at)) for at in is_on(answer) + cites_kept(answer, kept)}
+        if len(kept) == before:
+            return kept
 
 
 def is_refuted(answer):
