@@ -1,6 +1,4 @@
-// A module for each part; four for what `pgn_base` has, which are values, lists, sets and seeds, and `outside` for the fakes of
-// `pgn_memory`.
-mod lists;
+// A module for each part; three for what `pgn_base` has, which are values, sets and seeds, and `outside` for the fakes of `pgn_memory`.
 mod merging;
 mod outside;
 mod pending;
