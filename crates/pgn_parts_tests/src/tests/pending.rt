@@ -1,9 +1,8 @@
+use super::{name, note};
 use pgn_base::{Action, Actions, Name, Note, Notes, Seed};
-use pgn_memory::{name, note};
 use pgn_pending::{Call, NoSuch, Pending, finish_after};
 use std::alloc::{AllocError, Global};
 use std::process::Abort;
-use std::test::Fail;
 
 // The commands of a transaction, how often there was no such savepoint, and what is left. In order: repeats; a rolled back repeat;
 // savepoints of one name; a repeat whose first occurrence is rolled back; a repeat that is rolled back; a repeat across a released
@@ -27,49 +26,47 @@ LISTEN c; SAVEPOINT s; NOTIFY c a; RELEASE s; NOTIFY c b; ROLLBACK s => 1: LISTE
 LISTEN c; SAVEPOINT s; LISTEN d; UNLISTEN *; ROLLBACK s; UNLISTEN e => 0: LISTEN c; UNLISTEN e
 LISTEN c; SAVEPOINT s; NOTIFY c a; UNLISTEN *; RELEASE s; LISTEN c => 0: LISTEN c; UNLISTEN *; LISTEN c; NOTIFY c a";
 
-fn note_call(alloc: Global, words: &str) -> Result<Call, Fail> {
-    let (channel, payload) = words.split_once(' ').ok_or("a channel and a payload")?;
-    Ok(Call::Note(note(alloc, channel, payload)?))
+fn note_call(alloc: Global, words: &str) -> Option<Call> {
+    let (channel, payload) = words.split_once(' ')?;
+    Some(Call::Note(note(alloc, channel, payload)?))
 }
 
-fn name_call(verb: &str, name: Name) -> Result<Call, Fail> {
+fn name_call(verb: &str, name: Name) -> Option<Call> {
     match verb {
-        "LISTEN" => Ok(Call::Action(Action::Listen(name))),
-        "UNLISTEN" => Ok(Call::Action(Action::Unlisten(name))),
-        "SAVEPOINT" => Ok(Call::Savepoint(name)),
-        "ROLLBACK" => Ok(Call::BackTo(name)),
-        "RELEASE" => Ok(Call::Release(name)),
+        "LISTEN" => Some(Call::Action(Action::Listen(name))),
+        "UNLISTEN" => Some(Call::Action(Action::Unlisten(name))),
+        "SAVEPOINT" => Some(Call::Savepoint(name)),
+        "ROLLBACK" => Some(Call::BackTo(name)),
+        "RELEASE" => Some(Call::Release(name)),
         _ => {
             drop(name);
-            Err(Fail::from("another verb"))
+            None
         }
     }
 }
 
-fn call(alloc: Global, command: &str) -> Result<Call, Fail> {
-    let (verb, words) = command.split_once(' ').ok_or("a verb and its words")?;
+// The call of a command, unless it is none or memory does not suffice.
+fn call(alloc: Global, command: &str) -> Option<Call> {
+    let (verb, words) = command.split_once(' ')?;
     if verb == "NOTIFY" {
         return note_call(alloc, words);
     }
     if command == "UNLISTEN *" {
-        return Ok(Call::Action(Action::UnlistenAll));
+        return Some(Call::Action(Action::UnlistenAll));
     }
     name_call(verb, name(alloc, words)?)
 }
 
-fn tell_note(pending: &mut Pending, note: Note) -> Result<bool, AllocError> {
-    pending.note(note)?;
-    Ok(true)
+fn notes(pending: &mut Pending, note: Note) -> bool {
+    pending.note(note).is_ok()
 }
 
-fn tell_action(pending: &mut Pending, action: Action) -> Result<bool, AllocError> {
-    pending.action(action)?;
-    Ok(true)
+fn acts(pending: &mut Pending, action: Action) -> bool {
+    pending.action(action).is_ok()
 }
 
-fn tell_savepoint(pending: &mut Pending, name: Name) -> Result<bool, AllocError> {
-    pending.mark(name)?;
-    Ok(true)
+fn marks(pending: &mut Pending, name: Name) -> bool {
+    pending.mark(name).is_ok()
 }
 
 fn goes_back(pending: &mut Pending, name: &Name) -> bool {
@@ -80,39 +77,54 @@ fn releases(pending: &mut Pending, name: &Name) -> bool {
     pending.release(name) == Ok(())
 }
 
-// Whether there was such a savepoint.
-fn tell(pending: &mut Pending, call: Call) -> Result<bool, AllocError> {
-    match call {
-        Call::Note(note) => tell_note(pending, note),
-        Call::Action(action) => tell_action(pending, action),
-        Call::Savepoint(name) => tell_savepoint(pending, name),
-        Call::BackTo(name) => Ok(goes_back(pending, &name)),
-        Call::Release(name) => Ok(releases(pending, &name)),
-    }
+// Whether there was such a savepoint, if memory suffices.
+fn tell(pending: &mut Pending, call: Call) -> Option<bool> {
+    let (is_done, is_found) = match call {
+        Call::Note(note) => (notes(pending, note), true),
+        Call::Action(action) => (acts(pending, action), true),
+        Call::Savepoint(name) => (marks(pending, name), true),
+        Call::BackTo(name) => (true, goes_back(pending, &name)),
+        Call::Release(name) => (true, releases(pending, &name)),
+    };
+    if is_done { Some(is_found) } else { None }
+}
+
+// Tells a command.
+fn tell_one(alloc: Global, pending: &mut Pending, command: &str) -> Option<bool> {
+    tell(pending, call(alloc, command)?)
 }
 
 // Tells these commands: how often there was no such savepoint.
-fn tell_all(alloc: Global, pending: &mut Pending, commands: &str) -> Result<u32, Fail> {
+fn tell_all(alloc: Global, pending: &mut Pending, commands: &str) -> Option<u32> {
     let mut refused = 0u32;
     for command in commands.split("; ") {
-        if !tell(pending, call(alloc, command)?)? {
+        if !tell_one(alloc, pending, command)? {
             refused = refused.saturating_add(1);
         }
     }
-    Ok(refused)
+    Some(refused)
 }
 
-fn push_calls(alloc: Global, calls: &mut Vec<Call>, commands: &str) -> Result<(), Fail> {
+fn push_call(alloc: Global, calls: &mut Vec<Call>, command: &str) -> Option<()> {
+    calls.push(call(alloc, command)?).ok()
+}
+
+fn push_calls(alloc: Global, calls: &mut Vec<Call>, commands: &str) -> bool {
     for command in commands.split("; ") {
-        calls.push(call(alloc, command)?)?;
+        if push_call(alloc, calls, command).is_none() {
+            return false;
+        }
     }
-    Ok(())
+    true
 }
 
-fn all_calls(alloc: Global, commands: &str) -> Result<Vec<Call>, Fail> {
+fn all_calls(alloc: Global, commands: &str) -> Option<Vec<Call>> {
     let mut calls = Vec::new(alloc);
-    push_calls(alloc, &mut calls, commands)?;
-    Ok(calls)
+    if !push_calls(alloc, &mut calls, commands) {
+        drop(calls);
+        return None;
+    }
+    Some(calls)
 }
 
 fn push_words(text: &mut Vec<u8>, verb: &[u8], words: &[u8]) -> Result<(), AllocError> {
@@ -144,114 +156,116 @@ fn push_notes(text: &mut Vec<u8>, notes: &Notes) -> Result<(), AllocError> {
     Ok(())
 }
 
-// What is left as commands, the actions first.
-fn as_commands(alloc: Global, left: &(Actions, Notes)) -> Result<Vec<u8>, AllocError> {
+fn push_left(text: &mut Vec<u8>, left: &(Actions, Notes)) -> Result<(), AllocError> {
+    push_actions(text, &left.0)?;
+    push_notes(text, &left.1)
+}
+
+// Whether these are the commands that are left, the actions first.
+fn are_left(alloc: Global, left: &(Actions, Notes), want: &str) -> bool {
     let mut text = Vec::new(alloc);
-    push_actions(&mut text, &left.0)?;
-    push_notes(&mut text, &left.1)?;
-    Ok(text)
+    let put = push_left(&mut text, left).is_ok();
+    let same = text.as_slice() == want.as_bytes();
+    drop(text);
+    put && same
 }
 
-fn count(alloc: Global, refused: u32) -> Result<Vec<u8>, AllocError> {
-    let text = format!(in alloc; "{refused}: ")?;
-    Vec::from_slice(alloc, text.as_bytes())
-}
-
-// The same behind how often there was no such savepoint.
-fn as_answer(alloc: Global, refused: u32, left: &[u8]) -> Result<Vec<u8>, AllocError> {
-    let mut text = count(alloc, refused)?;
-    text.extend_from_slice(left)?;
-    Ok(text)
-}
-
-// What is left where a transaction ends here.
-fn left_of(alloc: Global, pending: Pending) -> Result<Vec<u8>, AllocError> {
+// Whether these are left where a transaction ends here.
+fn is_ended(alloc: Global, pending: Pending, want: &str) -> bool {
     let left = pending.finish();
-    let text = as_commands(alloc, &left);
+    let same = are_left(alloc, &left, want);
     drop(left);
-    text
+    same
 }
 
-// What these commands answer: how often there is no such savepoint, and what is left.
-fn answer(alloc: Global, commands: &str) -> Result<Vec<u8>, Fail> {
+// Whether these are left of a row's commands, and how often there was no such savepoint.
+fn played(alloc: Global, commands: &str, want: &str) -> Option<(bool, u32)> {
     let mut pending = Pending::new(alloc, Seed::fixed());
-    match tell_all(alloc, &mut pending, commands) {
-        Ok(refused) => Ok(as_answer(alloc, refused, &left_of(alloc, pending)?)?),
-        Err(fail) => {
-            drop(pending);
-            Err(fail)
-        }
-    }
+    let refused = tell_all(alloc, &mut pending, commands);
+    let same = is_ended(alloc, pending, want);
+    Some((same, refused?))
+}
+
+// Whether a text is this number.
+fn is_number(text: &str, number: u32) -> bool {
+    matches!(text.parse::<u32>(), Ok(found) if found == number)
+}
+
+// A row's commands, the count, and what is left.
+fn parts_of(row: &str) -> Option<(&str, &str, &str)> {
+    let (commands, answer) = row.split_once(" => ")?;
+    let (count, left) = answer.split_once(": ")?;
+    Some((commands, count, left))
 }
 
 // Whether a row's commands answer what it says.
-fn is_answered(alloc: Global, row: &str) -> Result<bool, Fail> {
-    let (commands, want) = row.split_once(" => ").ok_or("commands and an answer")?;
-    let answer = answer(alloc, commands)?;
-    Ok(answer.as_slice() == want.as_bytes())
+fn is_answered(alloc: Global, row: &str) -> Option<bool> {
+    let (commands, count, left) = parts_of(row)?;
+    let (same, refused) = played(alloc, commands, left)?;
+    Some(same && is_number(count, refused))
 }
 
-fn assert_answered(rt: &impl Abort, alloc: Global, rows: &str) -> Result<(), Fail> {
+fn assert_answered(rt: &impl Abort, alloc: Global, rows: &str) {
     for row in rows.lines() {
-        assert!(rt; is_answered(alloc, row)?, "{row}");
+        assert!(rt; is_answered(alloc, row) == Some(true), "{row}");
     }
-    Ok(())
 }
 
 #[test]
-fn what_is_left_of_a_transaction(rt: HostRuntime) -> Result<(), Fail> {
-    assert_answered(&rt, rt.alloc(), TRANSACTIONS)
+fn what_is_left_of_a_transaction(rt: HostRuntime) {
+    assert_answered(&rt, rt.alloc(), TRANSACTIONS);
 }
 
-// What is left of a row's commands, made one after another.
-fn left(alloc: Global, commands: &str) -> Result<Vec<u8>, Fail> {
+// Whether what is left of a row's commands, made one after another, is what the row says.
+fn is_left(alloc: Global, row: &str) -> Option<bool> {
+    let (commands, _, want) = parts_of(row)?;
     let calls = all_calls(alloc, commands)?;
-    let left = finish_after(alloc, Seed::fixed(), calls)?;
-    let text = as_commands(alloc, &left);
+    let left = finish_after(alloc, Seed::fixed(), calls).ok()?;
+    let same = are_left(alloc, &left, want);
     drop(left);
-    Ok(text?)
+    Some(same)
 }
 
-// Whether that is what the row says.
-fn is_left(alloc: Global, row: &str) -> Result<bool, Fail> {
-    let (commands, answer) = row.split_once(" => ").ok_or("commands and an answer")?;
-    let (_, want) = answer.split_once(": ").ok_or("a count and what is left")?;
-    let left = left(alloc, commands)?;
-    Ok(left.as_slice() == want.as_bytes())
-}
-
-fn assert_left(rt: &impl Abort, alloc: Global, rows: &str) -> Result<(), Fail> {
+fn assert_left(rt: &impl Abort, alloc: Global, rows: &str) {
     for row in rows.lines() {
-        assert!(rt; is_left(alloc, row)?, "{row}");
+        assert!(rt; is_left(alloc, row) == Some(true), "{row}");
     }
-    Ok(())
 }
 
 #[test]
-fn what_is_left_after_calls(rt: HostRuntime) -> Result<(), Fail> {
-    assert_left(&rt, rt.alloc(), TRANSACTIONS)
+fn what_is_left_after_calls(rt: HostRuntime) {
+    assert_left(&rt, rt.alloc(), TRANSACTIONS);
 }
 
-// A notification of this number.
-fn numbered(alloc: Global, level: usize) -> Result<Note, Fail> {
-    let payload = format!(in alloc; "{level}")?;
-    note(alloc, "c", &payload)
+// A notification of this number, if memory suffices.
+fn numbered(alloc: Global, level: usize) -> Option<Note> {
+    let payload = format!(in alloc; "{level}").ok()?;
+    let note = note(alloc, "c", &payload);
+    drop(payload);
+    note
 }
 
 // A savepoint, and in it a notification with its number.
-fn push_level(pending: &mut Pending, alloc: Global, level: usize) -> Result<(), Fail> {
-    tell_savepoint(pending, name(alloc, "s")?)?;
-    tell_note(pending, numbered(alloc, level)?)?;
-    Ok(())
+fn push_level(pending: &mut Pending, alloc: Global, level: usize) -> Option<bool> {
+    let name = name(alloc, "s")?;
+    let is_marked = marks(pending, name);
+    let note = numbered(alloc, level)?;
+    Some(notes(pending, note) && is_marked)
 }
 
 // Each of 300 levels sends its number.
-fn levels(alloc: Global) -> Result<Pending, Fail> {
-    let mut pending = Pending::new(alloc, Seed::fixed());
+fn push_levels(pending: &mut Pending, alloc: Global) -> bool {
     for level in 0..300 {
-        push_level(&mut pending, alloc, level)?;
+        if push_level(pending, alloc, level) != Some(true) {
+            return false;
+        }
     }
-    Ok(pending)
+    true
+}
+
+// Whether there is no such savepoint.
+fn is_missing(pending: &mut Pending, name: &Name) -> bool {
+    pending.release(name) == Err(NoSuch) && pending.back_to(name) == Err(NoSuch)
 }
 
 // Half of the levels are rolled back and released, from the innermost, and the others released. No savepoint is left then.
@@ -262,37 +276,55 @@ fn end_levels(rt: &impl Abort, pending: &mut Pending, name: &Name) {
         }
         assert!(rt; releases(pending, name));
     }
-    assert!(rt; pending.release(name) == Err(NoSuch));
-    assert!(rt; pending.back_to(name) == Err(NoSuch));
+    assert!(rt; is_missing(pending, name));
 }
 
-fn left_of_levels(rt: &impl Abort, alloc: Global) -> Result<Notes, Fail> {
-    let name = name(alloc, "s")?;
-    let mut pending = levels(alloc)?;
-    end_levels(rt, &mut pending, &name);
-    let (_, notes) = pending.finish();
-    Ok(notes)
+fn notes_of(pending: Pending) -> Notes {
+    let (actions, notes) = pending.finish();
+    drop(actions);
+    notes
+}
+
+fn left_of_levels(rt: &impl Abort, alloc: Global, name: &Name) -> Notes {
+    let mut pending = Pending::new(alloc, Seed::fixed());
+    assert!(rt; push_levels(&mut pending, alloc));
+    end_levels(rt, &mut pending, name);
+    notes_of(pending)
 }
 
 // Whether its payload is this number.
-fn has_number(alloc: Global, note: &Note, level: usize) -> Result<bool, AllocError> {
-    let payload = format!(in alloc; "{level}")?;
-    Ok(note.payload.as_bytes() == payload.as_bytes())
+fn has_number(alloc: Global, note: &Note, level: usize) -> Option<bool> {
+    let payload = format!(in alloc; "{level}").ok()?;
+    let has = note.payload.as_bytes() == payload.as_bytes();
+    drop(payload);
+    Some(has)
 }
 
 // Asserts that they are numbered from 0 on.
-fn assert_numbered(rt: &impl Abort, alloc: Global, notes: &[Note]) -> Result<(), AllocError> {
+fn assert_numbered(rt: &impl Abort, alloc: Global, notes: &[Note]) {
     for (level, note) in notes.iter().enumerate() {
-        assert!(rt; has_number(alloc, note, level)?);
+        assert!(rt; has_number(alloc, note, level) == Some(true));
     }
-    Ok(())
+}
+
+// Asserts that half of the levels are left.
+fn assert_levels(rt: &impl Abort, alloc: Global, name: &Name) {
+    let notes = left_of_levels(rt, alloc, name);
+    assert!(rt; notes.as_slice().len() == 150);
+    assert_numbered(rt, alloc, notes.as_slice());
+    drop(notes);
+}
+
+fn has_levels(rt: &impl Abort, alloc: Global) -> bool {
+    let Some(name) = name(alloc, "s") else {
+        return false;
+    };
+    assert_levels(rt, alloc, &name);
+    drop(name);
+    true
 }
 
 #[test]
-fn three_hundred_nested_savepoints(rt: HostRuntime) -> Result<(), Fail> {
-    let alloc = rt.alloc();
-    let notes = left_of_levels(&rt, alloc)?;
-    assert!(rt; notes.as_slice().len() == 150);
-    assert_numbered(&rt, alloc, notes.as_slice())?;
-    Ok(())
+fn three_hundred_nested_savepoints(rt: HostRuntime) {
+    assert!(rt; has_levels(&rt, rt.alloc()));
 }

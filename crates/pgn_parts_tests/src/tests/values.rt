@@ -1,8 +1,6 @@
 use pgn_base::{DbOid, Name, NameFault, Payload, PayloadFault, SessionNo, Xid};
 use pgn_memory::repeated;
-use std::alloc::{AllocError, Global};
-use std::process::Abort;
-use std::test::Fail;
+use std::alloc::Global;
 
 // A name's text, as so many times a piece and what follows, and its fault.
 const NAMES: [(&str, usize, &str, Option<NameFault>); 11] = [
@@ -19,36 +17,42 @@ const NAMES: [(&str, usize, &str, Option<NameFault>); 11] = [
     ("a", 63, "\0", Some(NameFault::TooLong)),
 ];
 
-// The fault of a text as a name. A name that is made has the bytes of its text.
-fn name_fault(rt: &impl Abort, alloc: Global, text: &str) -> Option<NameFault> {
+// Whether a text has this fault as a name, or with none is a name of its bytes.
+fn is_name(alloc: Global, text: &str, fault: Option<NameFault>) -> bool {
     match Name::new(alloc, text) {
         Ok(name) => {
-            assert!(rt; name.as_bytes() == text.as_bytes());
-            None
+            let same = name.as_bytes() == text.as_bytes();
+            drop(name);
+            same && fault.is_none()
         }
-        Err(fault) => Some(fault),
+        Err(found) => fault == Some(found),
     }
 }
 
 // The same of so many times a piece and what follows.
-fn fault_of_name(
-    rt: &impl Abort,
+fn is_repeated_name(
     alloc: Global,
     piece: &str,
     times: usize,
     end: &str,
-) -> Result<Option<NameFault>, AllocError> {
-    let text = repeated(alloc, piece, times, end)?;
-    Ok(name_fault(rt, alloc, &text))
+    fault: Option<NameFault>,
+) -> bool {
+    let Ok(text) = repeated(alloc, piece, times, end) else {
+        return false;
+    };
+    let is = is_name(alloc, &text, fault);
+    drop(text);
+    is
 }
 
 #[test]
-fn names_by_their_length_and_zero_bytes(rt: HostRuntime) -> Result<(), Fail> {
-    for (piece, times, end, want) in NAMES {
-        let fault = fault_of_name(&rt, rt.alloc(), piece, times, end)?;
-        assert_eq!(rt; fault, want, "at {times} {piece}");
+fn names_by_their_length_and_zero_bytes(rt: HostRuntime) {
+    for (piece, times, end, fault) in NAMES {
+        assert!(rt;
+            is_repeated_name(rt.alloc(), piece, times, end, fault),
+            "at {times} {piece}"
+        );
     }
-    Ok(())
 }
 
 // How many letters a payload has, what follows, and its fault.
@@ -64,78 +68,103 @@ const PAYLOADS: [(usize, &str, Option<PayloadFault>); 9] = [
     (7999, "\0", Some(PayloadFault::TooLong)),
 ];
 
-// The fault of a text as a payload. A payload that is made has the bytes of its text.
-fn payload_fault(rt: &impl Abort, alloc: Global, text: &str) -> Option<PayloadFault> {
+// Whether a text has this fault as a payload, or with none is a payload of its bytes.
+fn is_payload(alloc: Global, text: &str, fault: Option<PayloadFault>) -> bool {
     match Payload::new(alloc, text) {
         Ok(payload) => {
-            assert!(rt; payload.as_bytes() == text.as_bytes());
-            None
+            let same = payload.as_bytes() == text.as_bytes();
+            drop(payload);
+            same && fault.is_none()
         }
-        Err(fault) => Some(fault),
+        Err(found) => fault == Some(found),
     }
 }
 
 // The same of so many letters and what follows.
-fn fault_of_payload(
-    rt: &impl Abort,
+fn is_repeated_payload(
     alloc: Global,
     times: usize,
     end: &str,
-) -> Result<Option<PayloadFault>, AllocError> {
-    let text = repeated(alloc, "a", times, end)?;
-    Ok(payload_fault(rt, alloc, &text))
+    fault: Option<PayloadFault>,
+) -> bool {
+    let Ok(text) = repeated(alloc, "a", times, end) else {
+        return false;
+    };
+    let is = is_payload(alloc, &text, fault);
+    drop(text);
+    is
 }
 
 #[test]
-fn payloads_by_their_length_and_zero_bytes(rt: HostRuntime) -> Result<(), Fail> {
-    for (times, end, want) in PAYLOADS {
-        let fault = fault_of_payload(&rt, rt.alloc(), times, end)?;
-        assert_eq!(rt; fault, want, "at {times}");
+fn payloads_by_their_length_and_zero_bytes(rt: HostRuntime) {
+    for (times, end, fault) in PAYLOADS {
+        assert!(rt;
+            is_repeated_payload(rt.alloc(), times, end, fault),
+            "at {times}"
+        );
     }
-    Ok(())
 }
 
-// Whether the string is a name of these bytes.
-fn is_name_of_string(text: String, bytes: &[u8]) -> bool {
+// Whether a string of so many letters has this fault as a name, or with none is a name of these bytes.
+fn is_name_of_string(alloc: Global, times: usize, bytes: &[u8], fault: Option<NameFault>) -> bool {
+    let Ok(text) = repeated(alloc, "a", times, "") else {
+        return false;
+    };
     match Name::from_string(text) {
-        Ok(name) => name.as_bytes() == bytes,
-        Err(_) => false,
+        Ok(name) => {
+            let same = name.as_bytes() == bytes;
+            drop(name);
+            same && fault.is_none()
+        }
+        Err(found) => fault == Some(found),
     }
 }
 
 #[test]
-fn names_of_strings(rt: HostRuntime) -> Result<(), Fail> {
+fn names_of_strings(rt: HostRuntime) {
     let alloc = rt.alloc();
-    let text = repeated(alloc, "a", 23, "")?;
-    assert!(rt; is_name_of_string(text, b"aaaaaaaaaaaaaaaaaaaaaaa"));
-    let text = repeated(alloc, "a", 64, "")?;
-    assert!(rt; Name::from_string(text).err() == Some(NameFault::TooLong));
-    Ok(())
+    assert!(rt; is_name_of_string(alloc, 23, b"aaaaaaaaaaaaaaaaaaaaaaa", None));
+    assert!(rt; is_name_of_string(alloc, 64, b"", Some(NameFault::TooLong)));
 }
 
-// Whether the string is a payload of these bytes.
-fn is_payload_of_string(text: String, bytes: &[u8]) -> bool {
+// Whether a string of so many times a piece and what follows has this fault as a payload, or with none is a payload of these bytes.
+fn is_payload_of_string(
+    alloc: Global,
+    times: usize,
+    end: &str,
+    bytes: &[u8],
+    fault: Option<PayloadFault>,
+) -> bool {
+    let Ok(text) = repeated(alloc, "ab", times, end) else {
+        return false;
+    };
     match Payload::from_string(text) {
-        Ok(payload) => payload.as_bytes() == bytes,
-        Err(_) => false,
+        Ok(payload) => {
+            let same = payload.as_bytes() == bytes;
+            drop(payload);
+            same && fault.is_none()
+        }
+        Err(found) => fault == Some(found),
     }
 }
 
 #[test]
-fn payloads_of_strings(rt: HostRuntime) -> Result<(), Fail> {
+fn payloads_of_strings(rt: HostRuntime) {
     let alloc = rt.alloc();
-    let text = repeated(alloc, "ab", 12, "")?;
-    assert!(rt; is_payload_of_string(text, b"abababababababababababab"));
-    let text = repeated(alloc, "a", 22, "\0")?;
-    assert!(rt; Payload::from_string(text).err() == Some(PayloadFault::Nul));
-    Ok(())
+    assert!(rt; is_payload_of_string(alloc, 12, "", b"abababababababababababab", None));
+    assert!(rt; is_payload_of_string(alloc, 11, "\0", b"", Some(PayloadFault::Nul)));
+}
+
+// Whether numbers are those that they were made of, and are in order.
+fn are_numbers() -> bool {
+    SessionNo::new(256).get() == 256
+        && DbOid::new(u32::MAX).get() == u32::MAX
+        && Xid::new(3).get() == 3
+        && Xid::new(3) < Xid::new(4)
+        && Xid::new(5) == Xid::new(5)
 }
 
 #[test]
 fn numbers_in_order(rt: HostRuntime) {
-    assert!(rt; SessionNo::new(256).get() == 256);
-    assert!(rt; DbOid::new(u32::MAX).get() == u32::MAX);
-    assert!(rt; Xid::new(3).get() == 3);
-    assert!(rt; Xid::new(3) < Xid::new(4));
-    assert!(rt; Xid::new(5) == Xid::new(5));
+    assert!(rt; are_numbers());
 }
