@@ -1,5 +1,6 @@
 //! Where entries lie on their page, by the format of the hub.
 use super::*;
+use std::process::Abort;
 
 // A largest notification and two others with so many letters are sent, and read by a listener: the pages in use before it has read,
 // its new mark, and how many it has received.
@@ -23,6 +24,20 @@ fn send_three<P: PassView + Send + Drop, H: Hub<Pass = P> + Drop, R: Wait>(
     Ok((pages, received))
 }
 
+// Asserts this page, and that all three are received.
+fn assert_lies<P: PassView + Send + Drop, H: Hub<Pass = P> + Drop, R: Wait + Abort>(
+    rt: &R,
+    alloc: Global,
+    format: Format,
+    second: usize,
+    third: usize,
+    page: u64,
+) -> Result<(), Fail> {
+    let sent = send_three::<P, H, R>(rt, alloc, format, second, third)?;
+    assert!(rt; sent == (page, Some((6, 3))));
+    Ok(())
+}
+
 // By format, letters of the second and of the third, and the page on which the next entry begins. The largest entry ends at 8020 in
 // format One, and at 8032 in Two.
 const THREE: [(Format, usize, usize, u64); 6] = [
@@ -43,14 +58,14 @@ const THREE: [(Format, usize, usize, u64); 6] = [
 #[test]
 fn entries_lie_by_their_format(rt: HostRuntime) -> Result<(), Fail> {
     for (format, second, third, page) in THREE {
-        let sent = send_three::<WordPass, WordHub, HostRuntime>(
+        assert_lies::<WordPass, WordHub, HostRuntime>(
             &rt,
             rt.alloc(),
             format,
             second,
             third,
+            page,
         )?;
-        assert_eq!(rt; sent, (page, Some((6, 3))));
     }
     Ok(())
 }

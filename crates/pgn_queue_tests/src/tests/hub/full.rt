@@ -1,7 +1,7 @@
 //! A full queue, and what frees it.
 ghost use Rattle.std.specs.Prelude.{◌≢◌, IfSome, AllPairs};
 
-use super::script::{play_on_words, play_over};
+use super::script::{Row, play_rows};
 use super::*;
 use pgn_base::Full;
 
@@ -48,21 +48,6 @@ const FILLED_AND_FREED: &str = "\
 1 reads: 7 2
 2 sends c 4: 7
 1 reads: 8 1";
-
-#[test]
-fn full_and_freed_by_a_read(rt: HostRuntime) -> Result<(), Fail> {
-    for format in [Format::One, Format::Two] {
-        play_over::<WordPass, WordHub, HostRuntime>(
-            &rt,
-            rt.alloc(),
-            format,
-            2,
-            1,
-            FILLED_AND_FREED,
-        )?;
-    }
-    Ok(())
-}
 
 // Three large notifications.
 fn three_notes(alloc: Global) -> Option<[Note; 3]>
@@ -119,7 +104,13 @@ const TOO_LARGE: &str = "\
 1 three: 3 2 2 3 0 0
 1 sends c 0: 4";
 
+const FULL: [Row; 3] = [
+    (Format::One, 2, 1, FILLED_AND_FREED),
+    (Format::Two, 2, 1, FILLED_AND_FREED),
+    (Format::One, 2, 1, TOO_LARGE),
+];
+
 #[test]
-fn full_without_a_listener(rt: HostRuntime) -> Result<(), Fail> {
-    play_on_words(&rt, rt.alloc(), TOO_LARGE)
+fn each_full_queue_refuses(rt: HostRuntime) -> Result<(), Fail> {
+    play_rows(&rt, rt.alloc(), &FULL)
 }

@@ -15,68 +15,81 @@ use super::*;
 use pgn_base::{Full, Usage};
 use std::process::Abort;
 
-// The numbers that came of a line.
-type Answer = Vec<u64>;
+/// How many numbers a line may answer.
+const ROOM: usize = 8;
 
-fn put(answer: &mut Answer, number: u64) -> Option<()> {
-    answer.push(number).ok()
+// The numbers that came of a line: how many they are, and the first of them.
+#[derive(Clone, Copy)]
+struct Answer {
+    numbers: [u64; ROOM],
+    count: usize,
 }
 
-fn put_xid(answer: &mut Answer, xid: Xid) -> Option<()> {
-    put(answer, u64::from(xid.get()))
+const NO_ANSWER: Answer = Answer {
+    numbers: [0; ROOM],
+    count: 0,
+};
+
+fn put(answer: &mut Answer, number: u64) {
+    if answer.count < ROOM {
+        answer.numbers[answer.count] = number;
+    }
+    answer.count = answer.count.saturating_add(1);
+}
+
+fn put_xid(answer: &mut Answer, xid: Xid) {
+    put(answer, u64::from(xid.get()));
 }
 
 // A transaction's number, or 0.
-fn put_found(answer: &mut Answer, found: Option<Xid>) -> Option<()> {
+fn put_found(answer: &mut Answer, found: Option<Xid>) {
     match found {
         Some(xid) => put_xid(answer, xid),
         None => put(answer, 0),
     }
 }
 
-fn put_holder(answer: &mut Answer, holder: Option<SessionNo>) -> Option<()> {
+fn put_holder(answer: &mut Answer, holder: Option<SessionNo>) {
     match holder {
         Some(holder) => put(answer, u64::from(holder.get())),
         None => put(answer, 0),
     }
 }
 
-fn put_bytes(answer: &mut Answer, bytes: &[u8]) -> Option<()> {
+fn put_bytes(answer: &mut Answer, bytes: &[u8]) {
     for byte in bytes {
-        put(answer, u64::from(*byte))?;
+        put(answer, u64::from(*byte));
     }
-    Some(())
 }
 
-fn put_delivery(answer: &mut Answer, one: &Delivery) -> Option<()> {
-    put_xid(answer, one.xid)?;
-    put(answer, u64::from(one.pid))?;
-    put_bytes(answer, one.note.channel.as_bytes())?;
-    put(answer, one.note.payload.as_bytes().len() as u64)
+fn put_delivery(answer: &mut Answer, one: &Delivery) {
+    put_xid(answer, one.xid);
+    put(answer, u64::from(one.pid));
+    put_bytes(answer, one.note.channel.as_bytes());
+    put(answer, one.note.payload.as_bytes().len() as u64);
 }
 
-fn put_deliveries(answer: &mut Answer, got: &[Delivery]) -> Option<()> {
+fn put_deliveries(answer: &mut Answer, got: &[Delivery]) {
     for one in got {
-        put_delivery(answer, one)?;
+        put_delivery(answer, one);
     }
-    Some(())
 }
 
-fn put_full(answer: &mut Answer, full: Full) -> Option<()> {
-    put_xid(answer, full.xid)?;
-    put(answer, u64::from(full.queued))?;
-    put(answer, full.head_page)?;
-    put_xid(answer, full.floor_mark)?;
-    put(answer, full.floor_page)?;
-    put_holder(answer, full.holder)
+fn put_full(answer: &mut Answer, full: Full) {
+    put_xid(answer, full.xid);
+    put(answer, u64::from(full.queued));
+    put(answer, full.head_page);
+    put_xid(answer, full.floor_mark);
+    put(answer, full.floor_page);
+    put_holder(answer, full.holder);
 }
 
-fn put_usage(answer: &mut Answer, usage: Usage) -> Option<()> {
-    put_xid(answer, usage.at)?;
-    put(answer, usage.occupied)?;
-    put(answer, u64::from(usage.limit))?;
-    put_xid(answer, usage.floor_mark)?;
-    put_holder(answer, usage.holder)
+fn put_usage(answer: &mut Answer, usage: Usage) {
+    put_xid(answer, usage.at);
+    put(answer, usage.occupied);
+    put(answer, u64::from(usage.limit));
+    put_xid(answer, usage.floor_mark);
+    put_holder(answer, usage.holder);
 }
 
 // Whether a text is this number in decimal.
@@ -106,10 +119,14 @@ fn are_decimals(words: &str, numbers: &[u64]) -> bool {
     rest.is_empty()
 }
 
-fn is_answer(want: &str, answer: &[u64]) -> bool {
+// Whether they are those of a text, each behind a blank.
+fn is_answer(want: &str, answer: &Answer) -> bool {
+    let Some(numbers) = answer.numbers.get(..answer.count) else {
+        return false;
+    };
     match want.split_once(' ') {
-        Some((_, words)) => are_decimals(words, answer),
-        None => answer.is_empty(),
+        Some((_, words)) => are_decimals(words, numbers),
+        None => numbers.is_empty(),
     }
 }
 
@@ -122,8 +139,9 @@ fn enlists<P: PassView + Send + Drop, H: Hub<Pass = P>>(
     ensures { H.is_pass hub.now pass.new }
 {
     let enlisted = enlist(hub, pass)?;
-    put_xid(answer, enlisted.base)?;
-    put_xid(answer, enlisted.point)
+    put_xid(answer, enlisted.base);
+    put_xid(answer, enlisted.point);
+    Some(())
 }
 
 fn reads<P: PassView + Send + Drop, H: Hub<Pass = P>>(
@@ -136,8 +154,9 @@ fn reads<P: PassView + Send + Drop, H: Hub<Pass = P>>(
     ensures { H.is_pass hub.now pass.new }
 {
     let (to, count) = receive(alloc, hub, pass)?;
-    put(answer, u64::from(to))?;
-    put(answer, count as u64)
+    put(answer, u64::from(to));
+    put(answer, count as u64);
+    Some(())
 }
 
 fn receives<P: PassView + Send + Drop, H: Hub<Pass = P>>(
@@ -145,20 +164,15 @@ fn receives<P: PassView + Send + Drop, H: Hub<Pass = P>>(
     hub: &H,
     pass: &mut P,
     answer: &mut Answer,
-) -> Option<()>
+)
     requires { H.is_pass hub.now pass.old }
     ensures { H.is_pass hub.now pass.new }
 {
     let mut got = Vec::new(alloc);
     let to = read(alloc, hub, pass, &mut got);
-    let done = put_received(answer, to, &got);
+    put_found(answer, to);
+    put_deliveries(answer, &got);
     drop(got);
-    done
-}
-
-fn put_received(answer: &mut Answer, to: Option<Xid>, got: &[Delivery]) -> Option<()> {
-    put_found(answer, to)?;
-    put_deliveries(answer, got)
 }
 
 fn put_woken<P: PassView + Send + Drop, H: Hub<Pass = P>>(
@@ -170,7 +184,8 @@ fn put_woken<P: PassView + Send + Drop, H: Hub<Pass = P>>(
     ensures { H.is_pass hub.now pass.new }
 {
     let woken = woken(hub, pass)?;
-    put(answer, if woken { 1 } else { 0 })
+    put(answer, if woken { 1 } else { 0 });
+    Some(())
 }
 
 fn leaves<P: PassView + Send + Drop, H: Hub<Pass = P>>(hub: &H, pass: &mut P) -> Option<()>
@@ -210,7 +225,8 @@ fn sends<P: PassView + Send + Drop, H: Hub<Pass = P>, R: Wait>(
     let (channel, letters) = words.split_once(' ')?;
     let letters = letters_in(letters)?;
     let sent = send(rt, alloc, hub, pass, channel, letters);
-    put_found(answer, sent)
+    put_found(answer, sent);
+    Some(())
 }
 
 fn is_refused<P: PassView + Send + Drop, H: Hub<Pass = P>, R: Wait>(
@@ -226,7 +242,8 @@ fn is_refused<P: PassView + Send + Drop, H: Hub<Pass = P>, R: Wait>(
 {
     let letters = letters_in(words)?;
     let full = why_full(rt, alloc, hub, pass, letters);
-    put_full(answer, full?)
+    put_full(answer, full?);
+    Some(())
 }
 
 fn are_refused<P: PassView + Send + Drop, H: Hub<Pass = P>, R: Wait>(
@@ -240,7 +257,8 @@ fn are_refused<P: PassView + Send + Drop, H: Hub<Pass = P>, R: Wait>(
     ensures { H.is_pass hub.now pass.new }
 {
     let full = why_three_are_refused(rt, alloc, hub, pass);
-    put_full(answer, full?)
+    put_full(answer, full?);
+    Some(())
 }
 
 fn puts_usage<P: PassView + Send + Drop, H: Hub<Pass = P>, R: Wait>(
@@ -257,8 +275,9 @@ fn puts_usage<P: PassView + Send + Drop, H: Hub<Pass = P>, R: Wait>(
     match verb {
         "measures" => put_usage(answer, usage),
         "occupies" => put(answer, usage.occupied),
-        _ => None,
+        _ => return None,
     }
+    Some(())
 }
 
 // The flag 0 or 1.
@@ -284,7 +303,8 @@ fn raises<P: PassView + Send + Drop, H: Hub<Pass = P>>(
 {
     let flag = flag_in(words)?;
     let told = hub.raise(pass, flag);
-    put_xid(answer, told)
+    put_xid(answer, told);
+    Some(())
 }
 
 fn looks<P: PassView + Send + Drop, H: Hub<Pass = P>>(
@@ -299,7 +319,8 @@ fn looks<P: PassView + Send + Drop, H: Hub<Pass = P>>(
 {
     let flag = flag_in(words)?;
     let found = hub.look(pass, flag);
-    put_found(answer, found)
+    put_found(answer, found);
+    Some(())
 }
 
 // What a session does as a listener, or else with the queue.
@@ -319,7 +340,10 @@ fn call<P: PassView + Send + Drop, H: Hub<Pass = P>, R: Wait>(
     match verb {
         "enlists" => enlists(hub, pass, answer),
         "reads" => reads(alloc, hub, pass, answer),
-        "receives" => receives(alloc, hub, pass, answer),
+        "receives" => {
+            receives(alloc, hub, pass, answer);
+            Some(())
+        }
         "woken" => put_woken(hub, pass, answer),
         "leaves" => leaves(hub, pass),
         "three" => are_refused(rt, alloc, hub, pass, answer),
@@ -356,14 +380,14 @@ fn hears<P: PassView + Send + Drop, H: Hub<Pass = P>>(
     pass: &mut P,
     other: &mut P,
     answer: &mut Answer,
-) -> Option<()>
+)
     requires own { H.is_pass hub.now pass.old }
     requires other { H.is_pass hub.now other.old }
     ensures own { H.is_pass hub.now pass.new }
     ensures other { H.is_pass hub.now other.new }
 {
     hub.meet(other, pass);
-    put_xid(answer, pass.told())
+    put_xid(answer, pass.told());
 }
 
 // What a session does, the other one being this.
@@ -383,10 +407,12 @@ fn step<P: PassView + Send + Drop, H: Hub<Pass = P>, R: Wait>(
     ensures other { H.is_pass hub.now other.new }
 {
     if does == "hears" {
-        return hears(hub, pass, other, answer);
+        hears(hub, pass, other, answer);
+        return Some(());
     }
     if does == "told" {
-        return put_xid(answer, pass.told());
+        put_xid(answer, pass.told());
+        return Some(());
     }
     match does.split_once(' ') {
         Some((verb, words)) => call(rt, alloc, hub, pass, verb, words, answer),
@@ -426,21 +452,16 @@ fn is_answered<P: PassView + Send + Drop, H: Hub<Pass = P>, R: Wait>(
     second: &mut P,
     does: &str,
     want: &str,
-) -> Option<bool>
+) -> bool
     requires first { H.is_pass hub.now first.old }
     requires second { H.is_pass hub.now second.old }
     requires flags { (H.shape hub.now).flags ≡ 2 }
     ensures first { H.is_pass hub.now first.new }
     ensures second { H.is_pass hub.now second.new }
 {
-    let mut answer = Vec::new(alloc);
-    let done = step_of_two(rt, alloc, hub, first, second, does, &mut answer);
-    let is_that = is_answer(want, &answer);
-    drop(answer);
-    match done {
-        Some(()) => Some(is_that),
-        None => None,
-    }
+    let mut answer = NO_ANSWER;
+    step_of_two(rt, alloc, hub, first, second, does, &mut answer).is_some()
+        && is_answer(want, &answer)
 }
 
 // Plays a script of two sessions, and asserts what comes of each line.
@@ -461,7 +482,7 @@ pub(super) fn play<P: PassView + Send + Drop, H: Hub<Pass = P>, R: Wait + Abort>
     'lines: for line in script.lines() {
         let (does, want) = line.split_once(':').ok_or("a call and its answer")?;
         assert!(rt;
-            is_answered(rt, alloc, hub, first, second, does, want) == Some(true),
+            is_answered(rt, alloc, hub, first, second, does, want),
             "{line}"
         );
     }
@@ -469,7 +490,7 @@ pub(super) fn play<P: PassView + Send + Drop, H: Hub<Pass = P>, R: Wait + Abort>
 }
 
 // The same over a hub of its own, of so many pages, whose second session is in this database.
-pub(super) fn play_over<P: PassView + Send + Drop, H: Hub<Pass = P> + Drop, R: Wait + Abort>(
+fn play_over<P: PassView + Send + Drop, H: Hub<Pass = P> + Drop, R: Wait + Abort>(
     rt: &R,
     alloc: Global,
     format: Format,
@@ -489,13 +510,29 @@ pub(super) fn play_over<P: PassView + Send + Drop, H: Hub<Pass = P> + Drop, R: W
     done
 }
 
-// The same over one of two pages for one database, on the words.
-pub(super) fn play_on_words<R: Wait + Abort>(
+/// A format, pages, the second session's database, and a script.
+pub(super) type Row = (Format, u32, u32, &'static str);
+
+// Plays each of them over a hub of its own, on the words.
+pub(super) fn play_rows<R: Wait + Abort>(rt: &R, alloc: Global, rows: &[Row]) -> Result<(), Fail> {
+    for (format, pages, second_db, script) in rows {
+        play_row(rt, alloc, *format, *pages, *second_db, *script)?;
+    }
+    Ok(())
+}
+
+fn play_row<R: Wait + Abort>(
     rt: &R,
     alloc: Global,
+    format: Format,
+    pages: u32,
+    second_db: u32,
     script: &str,
 ) -> Result<(), Fail> {
-    play_over::<WordPass, WordHub, R>(rt, alloc, Format::One, 2, 1, script)
+    if pages < 2 || pages > 1024 || second_db == 0 {
+        return Err(Fail::from("no such hub"));
+    }
+    play_over::<WordPass, WordHub, R>(rt, alloc, format, pages, second_db, script)
 }
 
 // Plays a script over a hub of its own, of two pages: how many transactions its journal has then.

@@ -94,7 +94,7 @@ fn assert_used_again<P: PassView + Send + Drop, H: Hub<Pass = P> + Drop, R: Wait
 ) -> Result<(), Fail> {
     for (format, times, mark) in [(Format::One, TIMES, 4003), (Format::Two, 40, 43)] {
         let done = used_again::<P, H, R>(rt, alloc, format, times, notes, set)?;
-        assert_eq!(rt; done, (true, Some((mark, 0))));
+        assert!(rt; done == (true, Some((mark, 0))));
     }
     Ok(())
 }
@@ -334,6 +334,6 @@ fn two_threads(rt: HostRuntime) -> Result<(), Fail> {
     let done = shared(&rt, alloc, &notes, &set);
     drop(notes);
     drop(set);
-    assert_eq!(rt; done?, (8000, true, true));
+    assert!(rt; done? == (8000, true, true));
     Ok(())
 }

@@ -77,6 +77,23 @@ fn advance_over<R: Wait + Abort>(
     }
 }
 
+// Asserts this of them.
+fn assert_advances<R: Wait + Abort>(
+    rt: &R,
+    alloc: Global,
+    pages: u32,
+    before: &str,
+    after: &str,
+    want: (Advance, Advance, u32),
+) -> Result<(), Fail>
+    requires some_pages { 2 ≤ pages }
+    requires few_pages { pages ≤ 1024 }
+{
+    let advanced = advance_over(rt, alloc, pages, before, after)?;
+    assert_eq!(rt; advanced, want);
+    Ok(())
+}
+
 const HOLDS_THE_TAIL: &str = "\
 1 enlists: 3 3
 2 sends c 7999: 3
@@ -84,9 +101,8 @@ const HOLDS_THE_TAIL: &str = "\
 
 #[test]
 fn a_listener_holds_the_tail(rt: HostRuntime) -> Result<(), Fail> {
-    let advanced = advance_over(&rt, rt.alloc(), 2, HOLDS_THE_TAIL, "1 reads: 5 2")?;
-    assert_eq!(rt; advanced, ((0, 0, None), (0, 1, None), 2));
-    Ok(())
+    let want = ((0, 0, None), (0, 1, None), 2);
+    assert_advances(&rt, rt.alloc(), 2, HOLDS_THE_TAIL, "1 reads: 5 2", want)
 }
 
 // The listener reads after the fourth of five largest notifications.
@@ -101,9 +117,8 @@ const FIVE_ARE_SENT: &str = "\
 
 #[test]
 fn the_tail_moves_without_a_full_queue(rt: HostRuntime) -> Result<(), Fail> {
-    let advanced = advance_over(&rt, rt.alloc(), 9, FIVE_ARE_SENT, "")?;
-    assert_eq!(rt; advanced, ((3, 3, None), (3, 3, None), 5));
-    Ok(())
+    let want = ((3, 3, None), (3, 3, None), 5);
+    assert_advances(&rt, rt.alloc(), 9, FIVE_ARE_SENT, "", want)
 }
 
 const LISTENS_AND_READS: &str = "\
@@ -122,9 +137,15 @@ const SIGNALS_AND_LEAVES: &str = "\
 
 #[test]
 fn one_pass_through_every_call(rt: HostRuntime) -> Result<(), Fail> {
-    let advanced = advance_over(&rt, rt.alloc(), 2, LISTENS_AND_READS, SIGNALS_AND_LEAVES)?;
-    assert_eq!(rt; advanced, ((0, 0, None), (0, 0, None), 1));
-    Ok(())
+    let want = ((0, 0, None), (0, 0, None), 1);
+    assert_advances(
+        &rt,
+        rt.alloc(),
+        2,
+        LISTENS_AND_READS,
+        SIGNALS_AND_LEAVES,
+        want,
+    )
 }
 
 // A session joins and leaves: whether the flag 0 was raised.
@@ -225,6 +246,6 @@ fn a_session_that_joins_is_named(rt: HostRuntime) -> Result<(), Fail> {
     send(&rt, alloc, &hub, &mut second, "c", LARGEST);
     let (_, met) = join_and_advance(&rt, &hub, first, second);
     drop(hub);
-    assert_eq!(rt; met_by(met), Some((true, 1)));
+    assert!(rt; met_by(met) == Some((true, 1)));
     Ok(())
 }
