@@ -80,9 +80,9 @@ fn holds(
 
 #[test]
 fn a_sink_holds_a_prefix_where_it_fails(rt: HostRuntime) {
-    for (room, fails, want, held) in WRITES {
+    for (room, fails, want, held) in &WRITES {
         assert!(rt;
-            holds(rt.alloc(), room, fails, want, held) == Some(true),
+            holds(rt.alloc(), *room, *fails, *want, *held) == Some(true),
             "{room} {fails}"
         );
     }

@@ -47,9 +47,9 @@ fn is_repeated_name(
 
 #[test]
 fn names_by_their_length_and_zero_bytes(rt: HostRuntime) {
-    for (piece, times, end, fault) in NAMES {
+    for (piece, times, end, fault) in &NAMES {
         assert!(rt;
-            is_repeated_name(rt.alloc(), piece, times, end, fault),
+            is_repeated_name(rt.alloc(), *piece, *times, *end, *fault),
             "at {times} {piece}"
         );
     }
@@ -97,9 +97,9 @@ fn is_repeated_payload(
 
 #[test]
 fn payloads_by_their_length_and_zero_bytes(rt: HostRuntime) {
-    for (times, end, fault) in PAYLOADS {
+    for (times, end, fault) in &PAYLOADS {
         assert!(rt;
-            is_repeated_payload(rt.alloc(), times, end, fault),
+            is_repeated_payload(rt.alloc(), *times, *end, *fault),
             "at {times}"
         );
     }
