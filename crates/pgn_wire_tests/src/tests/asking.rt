@@ -86,8 +86,8 @@ fn are_asked(
 
 #[test]
 fn cut_by_the_reads_in_any_way(rt: HostRuntime) {
-    for most in [1, 2, 3, 14, 64] {
-        assert!(rt; is_talk(rt.alloc(), TALK, most, None));
+    for most in &[1, 2, 3, 14, 64] {
+        assert!(rt; is_talk(rt.alloc(), TALK, *most, None));
     }
 }
 
@@ -120,16 +120,9 @@ const FAULTS: [(&[u8], usize, WireFault); 15] = [
 
 #[test]
 fn faults_at_their_offsets(rt: HostRuntime) {
-    for (bytes, count, fault) in FAULTS {
-        assert!(rt;
-            are_asked(
-                rt.alloc(),
-                bytes,
-                (&[], 1),
-                count,
-                Some(NoQuery::Fault(fault))
-            )
-        );
+    for (bytes, count, fault) in &FAULTS {
+        let end = Some(NoQuery::Fault(*fault));
+        assert!(rt; are_asked(rt.alloc(), *bytes, (&[], 1), *count, end));
     }
 }
 
@@ -162,7 +155,7 @@ fn a_text_with_a_line_feed(rt: HostRuntime) {
 // The reads of a source that gives 14 bytes at a time: three a query and two for the Terminate.
 #[test]
 fn a_source_that_fails_at_each_of_its_calls(rt: HostRuntime) {
-    for (call, count) in [
+    for (call, count) in &[
         (1, 0),
         (2, 0),
         (3, 0),
@@ -176,8 +169,8 @@ fn a_source_that_fails_at_each_of_its_calls(rt: HostRuntime) {
             are_asked(
                 rt.alloc(),
                 TALK,
-                (&[call], 14),
-                count,
+                (&[*call], 14),
+                *count,
                 Some(NoQuery::Failed)
             )
         );
@@ -316,7 +309,7 @@ fn refuses_one_more(alloc: Global, most: u32) -> Result<bool, AllocError> {
 // As many as a scenario's lines, few, and none.
 #[test]
 fn as_many_notifications_as_a_client_may_ask(rt: HostRuntime) {
-    for most in [65_536, 1, 0] {
-        assert!(rt; refuses_one_more(rt.alloc(), most) == Ok(true));
+    for most in &[65_536, 1, 0] {
+        assert!(rt; refuses_one_more(rt.alloc(), *most) == Ok(true));
     }
 }

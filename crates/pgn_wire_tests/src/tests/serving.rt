@@ -99,8 +99,11 @@ fn sink_of(alloc: Global, side: Side<'_>) -> Result<MemSink, AllocError> {
 // The talk is read in any pieces, and answered in any.
 #[test]
 fn a_conversation_in_pieces(rt: HostRuntime) {
-    for most in [1, 7, 64] {
-        let side = Side { most, ..PLAIN };
+    for most in &[1, 7, 64] {
+        let side = Side {
+            most: *most,
+            ..PLAIN
+        };
         let talk = Talk {
             reads: side,
             writes: side,
@@ -144,16 +147,24 @@ fn a_source_that_fails_at_each_of_its_calls(rt: HostRuntime) {
 
 #[test]
 fn a_sink_that_fails_at_each_of_its_calls(rt: HostRuntime) {
-    for (call, size) in [(1, 0), (2, 18)] {
+    for (call, size) in &[(1, 0), (2, 18)] {
         let writes = Side {
-            fails: &[call],
+            fails: &[*call],
             ..PLAIN
         };
         let talk = Talk {
             writes,
             ..PLAIN_TALK
         };
-        assert!(rt; is_served(&rt, rt.alloc(), talk, Err(WireEnd::Write), &ANSWERS[..size]));
+        assert!(rt;
+            is_served(
+                &rt,
+                rt.alloc(),
+                talk,
+                Err(WireEnd::Write),
+                &ANSWERS[..*size]
+            )
+        );
     }
 }
 
@@ -201,7 +212,7 @@ const FAULTS: [(&[u8], WireFault); 5] = [
 
 #[test]
 fn faults_behind_queries(rt: HostRuntime) {
-    for (more, fault) in FAULTS {
-        assert!(rt; is_told_before(&rt, rt.alloc(), more, fault));
+    for (more, fault) in &FAULTS {
+        assert!(rt; is_told_before(&rt, rt.alloc(), *more, *fault));
     }
 }
