@@ -451,6 +451,8 @@ def read_definitions(file):
         tokens = tokens_of('\n'.join(file.lines[start:stop]), GHOST_TOKEN, start + 1)
         if line.startswith(('use ', 'pub use ')):
             file.ghosts.update(use_paths(tokens[1 if line.startswith('use') else 2:]))
+        elif item and re.match(r'(pub )?' + re.escape(item.name) + r"-prop(?![\w'-])", line):
+            item.last = stop  # that it is a proposition is part of it
         elif re.match(r'(pub|unfoldable pub|abbrev) ', line) and not line.startswith('pub mod'):
             names = [t for t in tokens if t.text not in ('pub', 'unfoldable', 'abbrev', 'record', 'data')]
             item = Item('definition', names[0].text, file, start + 1, stop)
