@@ -12,6 +12,7 @@ use pgn_scenario::read_scenario;
 use pgn_session::Session;
 use pgn_threads::open_on_hub;
 use std::alloc::{AllocError, Global};
+use std::process::Abort;
 use std::sync::Wait;
 use std::test::Fail;
 use std::thread::Threads;
@@ -75,6 +76,23 @@ fn live<
     requires few { length sessions.old ≤ 256 }
 {
     run_live(rt, alloc, hub, sections, sessions, sink)
+}
+
+// Asserts that what was found is this text, and gives it up.
+fn assert_is<R: Abort>(rt: &R, found: String, want: &str) {
+    assert_text(rt, found.as_str(), want);
+    drop(found);
+}
+
+fn assert_text<R: Abort>(rt: &R, found: &str, want: &str) {
+    assert_eq!(rt; found, want);
+}
+
+// Whether a text begins with what was found, which is given up.
+fn begins_with(text: &str, found: String) -> bool {
+    let begins = text.starts_with(found.as_str());
+    drop(found);
+    begins
 }
 
 // A sink that takes at most so many bytes a call and fails at these calls.

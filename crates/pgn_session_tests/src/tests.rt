@@ -11,7 +11,8 @@ use pgn_run::{Means, Print, RunSettings, Status, run_scenario};
 use pgn_scenario::read_scenario;
 use pgn_session::Session;
 use pgn_threads::{open_on_hub, run_sessions};
-use std::alloc::{AllocError, Global};
+use std::alloc::Global;
+use std::process::Abort;
 use std::sync::Wait;
 use std::test::Fail;
 use std::thread::Threads;
@@ -61,9 +62,46 @@ fn shown_over<H: Hub + Sync + Drop, R: Threads + Wait + Clock + Sync>(
     requires { 1 ≤ patience }
 {
     let mut sink = MemSink::new(alloc, 1 << 20, Vec::new(alloc), 1 << 20)?;
+    let shown = shown_into::<H, R>(rt, alloc, input, patience, print, &mut sink);
+    drop(sink);
+    shown
+}
+
+// The same, written to this sink.
+fn shown_into<H: Hub + Sync + Drop, R: Threads + Wait + Clock + Sync>(
+    rt: &R,
+    alloc: Global,
+    input: &str,
+    patience: u64,
+    print: Print,
+    sink: &mut MemSink,
+) -> Result<String, Fail>
+    requires { 1 ≤ patience }
+{
     let scenario = scenario_of(alloc, input)?;
-    let status = status_over::<H, MemSink, R>(rt, alloc, scenario, patience, print, &mut sink);
+    let status = status_over::<H, MemSink, R>(rt, alloc, scenario, patience, print, sink);
     told(alloc, status, sink.held())
+}
+
+// Asserts that this comes of an input over a hub of this type.
+fn assert_shows<H: Hub + Sync + Drop, R: Threads + Wait + Clock + Sync + Abort>(
+    rt: &R,
+    alloc: Global,
+    input: &str,
+    patience: u64,
+    print: Print,
+    want: &str,
+) -> Result<(), Fail>
+    requires { 1 ≤ patience }
+{
+    let text = shown_over::<H, R>(rt, alloc, input, patience, print)?;
+    assert_text(rt, text.as_str(), want);
+    drop(text);
+    Ok(())
+}
+
+fn assert_text(rt: &impl Abort, found: &str, want: &str) {
+    assert_eq!(rt; found, want);
 }
 
 // What a run has written that is done; of one that found no memory that it has written nothing.

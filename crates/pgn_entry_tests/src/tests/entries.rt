@@ -243,8 +243,8 @@ const REFUSED: [(&[u8], EntryFault); 4] = [
 #[test]
 fn entry_bytes_refused(rt: HostRuntime) {
     assert!(rt; is_read(Format::One, &SHORT[..19], Err(EntryFault::Short)));
-    for (bytes, fault) in REFUSED {
-        assert!(rt; is_read(Format::One, bytes, Err(fault)), "{bytes:?}");
+    for (bytes, fault) in &REFUSED {
+        assert!(rt; is_read(Format::One, *bytes, Err(*fault)), "{bytes:?}");
     }
 }
 
@@ -462,16 +462,16 @@ fn assert_changes(rt: &impl Abort, change: Change, begin: usize, channel: &[u8],
 
 #[test]
 fn each_byte_of_the_first_entry_changed(rt: HostRuntime) {
-    for change in FIRST {
-        assert_changes(&rt, change, 0, b"virtual", b"This is the payload");
+    for change in &FIRST {
+        assert_changes(&rt, *change, 0, b"virtual", b"This is the payload");
     }
     assert_changes(&rt, (42, 43, 0, None), 0, b"virtual", b"This is the payloa");
 }
 
 #[test]
 fn each_byte_of_the_second_entry_changed(rt: HostRuntime) {
-    for change in SECOND {
-        assert_changes(&rt, change, 44, b"c", b"");
+    for change in &SECOND {
+        assert_changes(&rt, *change, 44, b"c", b"");
     }
 }
 
@@ -509,8 +509,8 @@ pub(super) fn is_length_read(
 
 #[test]
 fn lengths(rt: HostRuntime) {
-    for (len, in_twenty, in_a_page) in LENGTHS {
-        let read = is_length_read(Format::One, len, 20, in_twenty, in_a_page);
+    for (len, in_twenty, in_a_page) in &LENGTHS {
+        let read = is_length_read(Format::One, *len, 20, *in_twenty, *in_a_page);
         assert!(rt; read, "at {len}");
     }
 }
@@ -557,8 +557,8 @@ fn read_repeated(
 
 #[test]
 fn texts_that_are_too_long(rt: HostRuntime) -> Result<(), Fail> {
-    for (len, channel, payload, fault) in TEXTS {
-        let read = read_repeated(rt.alloc(), len, channel, payload, fault)?;
+    for (len, channel, payload, fault) in &TEXTS {
+        let read = read_repeated(rt.alloc(), *len, *channel, *payload, *fault)?;
         assert!(rt; read, "at {len}");
     }
     Ok(())
@@ -574,9 +574,9 @@ const SHORT_TEXTS: [(u32, &[u8], &[u8], Option<EntryFault>); 4] = [
 
 #[test]
 fn texts_that_are_no_utf8(rt: HostRuntime) -> Result<(), Fail> {
-    for (len, channel, payload, fault) in SHORT_TEXTS {
+    for (len, channel, payload, fault) in &SHORT_TEXTS {
         assert!(rt;
-            read_by_hand(rt.alloc(), len, (channel, payload), fault)?,
+            read_by_hand(rt.alloc(), *len, (*channel, *payload), *fault)?,
             "at {len} {channel:?}"
         );
     }

@@ -159,8 +159,8 @@ const REFUSED: [(&[u8], EntryFault); 7] = [
 
 #[test]
 fn entry_bytes_refused(rt: HostRuntime) {
-    for (bytes, fault) in REFUSED {
-        assert!(rt; is_read(Format::Two, bytes, Err(fault)), "{bytes:?}");
+    for (bytes, fault) in &REFUSED {
+        assert!(rt; is_read(Format::Two, *bytes, Err(*fault)), "{bytes:?}");
     }
 }
 
@@ -290,16 +290,16 @@ fn assert_changes(rt: &impl Abort, change: Change, begin: usize, channel: &[u8],
 
 #[test]
 fn each_byte_of_the_first_entry_changed(rt: HostRuntime) {
-    for change in FIRST {
-        assert_changes(&rt, change, 0, b"virtual", b"This is the payload");
+    for change in &FIRST {
+        assert_changes(&rt, *change, 0, b"virtual", b"This is the payload");
     }
     assert_changes(&rt, (50, 51, 0, None), 0, b"virtual", b"This is the payloa");
 }
 
 #[test]
 fn each_byte_of_the_second_entry_changed(rt: HostRuntime) {
-    for change in SECOND {
-        assert_changes(&rt, change, 56, b"c", b"");
+    for change in &SECOND {
+        assert_changes(&rt, *change, 56, b"c", b"");
     }
 }
 
@@ -332,8 +332,8 @@ const LENGTHS: [(u32, EntryFault, Option<EntryFault>); 11] = [
 
 #[test]
 fn lengths(rt: HostRuntime) {
-    for (len, in_few, in_page) in LENGTHS {
-        let read = is_length_read(Format::Two, len, 32, in_few, page_read(len, in_page));
+    for (len, in_few, in_page) in &LENGTHS {
+        let read = is_length_read(Format::Two, *len, 32, *in_few, page_read(*len, *in_page));
         assert!(rt; read, "at {len}");
     }
 }
@@ -364,8 +364,8 @@ fn is_refused_with(at: usize, fault: EntryFault) -> Result<bool, Fail> {
 
 #[test]
 fn a_filler_that_carries_a_byte(rt: HostRuntime) -> Result<(), Fail> {
-    for (at, fault) in CARRIED {
-        assert!(rt; is_refused_with(at, fault)?, "at {at}");
+    for (at, fault) in &CARRIED {
+        assert!(rt; is_refused_with(*at, *fault)?, "at {at}");
     }
     Ok(())
 }

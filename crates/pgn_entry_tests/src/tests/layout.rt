@@ -106,9 +106,9 @@ fn after(from: Place, len: u32) -> Option<Pos> {
 
 #[test]
 fn steps(rt: HostRuntime) -> Result<(), Fail> {
-    for (from, len, to) in STEPS {
-        let to = pos_of(to).ok_or("no place")?;
-        assert!(rt; after(from, len) == Some(to), "{from:?} and {len}");
+    for (from, len, to) in &STEPS {
+        let to = pos_of(*to).ok_or("no place")?;
+        assert!(rt; after(*from, *len) == Some(to), "{from:?} and {len}");
     }
     Ok(())
 }
@@ -169,8 +169,8 @@ fn are_planned(
 
 #[test]
 fn batches(rt: HostRuntime) -> Result<(), Fail> {
-    for (from, lens, fits, filler, next) in BATCHES {
-        let planned = are_planned(rt.alloc(), from, lens, fits, filler, next)?;
+    for (from, lens, fits, filler, next) in &BATCHES {
+        let planned = are_planned(rt.alloc(), *from, *lens, *fits, *filler, *next)?;
         assert!(rt; planned, "{from:?} and {lens:?}");
     }
     Ok(())
@@ -187,8 +187,8 @@ const LONGEST: [(Place, usize, u32, Place); 6] = [
 ];
 
 fn assert_planned(rt: &impl Abort, notes: &[Note]) {
-    for (from, fits, filler, next) in LONGEST {
-        assert!(rt; is_planned(from, notes, fits, filler, next), "{from:?}");
+    for (from, fits, filler, next) in &LONGEST {
+        assert!(rt; is_planned(*from, notes, *fits, *filler, *next), "{from:?}");
     }
 }
 
@@ -228,9 +228,9 @@ fn has_bits(rt: &impl Abort, xid: Xid, committed: u64, aborted: u64) {
 
 #[test]
 fn statuses(rt: HostRuntime) {
-    for (xid, committed, aborted) in STATUSES {
-        assert!(rt; xid >= 3);
-        has_bits(&rt, Xid::new(xid), committed, aborted);
+    for (xid, committed, aborted) in &STATUSES {
+        assert!(rt; *xid >= 3);
+        has_bits(&rt, Xid::new(*xid), *committed, *aborted);
     }
 }
 

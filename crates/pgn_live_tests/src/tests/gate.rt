@@ -2,7 +2,9 @@ ghost use Rattle.std.specs.Prelude.{◌≡◌, map, length, All};
 ghost use Rattle.std.specs.List.{range_with_len};
 ghost use Rattle.pgn_language.specs.Inputs.{IsSound};
 
-use super::{SELF_NOTIFY, SELF_NOTIFY_LINES, live, open, scenario_of, sink_of, text_of};
+use super::{
+    SELF_NOTIFY, SELF_NOTIFY_LINES, assert_text, live, open, scenario_of, sink_of, text_of,
+};
 use pgn_base::{
     Delivery, Enlisted, Failed, Full, ListenSet, Note, PATIENCE_DEFAULT, Sink, Usage, Xid,
 };
@@ -12,6 +14,7 @@ use pgn_live::LiveFault;
 use pgn_memory::MemSink;
 use pgn_wordhub::WordHub;
 use std::alloc::{AllocError, Global};
+use std::process::Abort;
 use std::sync::atomic::{AtomicU64, Ordering};
 use std::sync::{Arc, Wait};
 use std::test::Fail;
@@ -83,9 +86,17 @@ impl<const TURNS: u32> Hub for Gate<TURNS> {
             begun: AtomicU64::new(0),
             spent: AtomicU64::new(0),
         };
-        let counts = Arc::new(alloc, counts)?;
-        let (hub, passes) = WordHub::open(alloc, setup)?;
-        Ok((Gate { hub, counts }, passes))
+        let Ok(counts) = Arc::new(alloc, counts) else {
+            drop(setup);
+            return Err(AllocError);
+        };
+        match WordHub::open(alloc, setup) {
+            Ok((hub, passes)) => Ok((Gate { hub, counts }, passes)),
+            Err(error) => {
+                drop(counts);
+                Err(error)
+            }
+        }
     }
 
     fn publish<R: Wait>(&self, rt: &R, pass: &mut Self::Pass, notes: &[Note]) -> Result<Xid, Full> {
@@ -228,12 +239,11 @@ fn shown_of<const TURNS: u32, R: Threads + Wait + Clock + Sync>(
 ) -> Result<Shown, Fail>
     requires { IsSound scenario.now }
 {
-    let sink = sink_of(alloc, most, fails)?;
     let (hub, mut sessions) = open::<Gate<TURNS>>(alloc, scenario, PATIENCE_DEFAULT)?;
-    let mut sink = GateSink {
-        sink,
-        counts: hub.counts.clone()?,
-        has_written: false,
+    let Ok(mut sink) = gate_sink(alloc, &hub, most, fails) else {
+        drop(sessions);
+        drop(hub);
+        return Err(Fail::from("no sink"));
     };
     let sections = scenario.sections.as_slice();
     let ended = live(
@@ -247,6 +257,37 @@ fn shown_of<const TURNS: u32, R: Threads + Wait + Clock + Sync>(
     let is_spent = hub.is_spent();
     drop(sessions);
     drop(hub);
+    let shown = shown_by(alloc, ended, is_spent, &sink);
+    drop(sink);
+    shown
+}
+
+// A sink that lets the first transaction of this gate go on.
+fn gate_sink<const TURNS: u32>(
+    alloc: Global,
+    hub: &Gate<TURNS>,
+    most: usize,
+    fails: &[u64],
+) -> Result<GateSink, AllocError> {
+    let sink = sink_of(alloc, most, fails)?;
+    let Ok(counts) = hub.counts.clone() else {
+        drop(sink);
+        return Err(AllocError);
+    };
+    Ok(GateSink {
+        sink,
+        counts,
+        has_written: false,
+    })
+}
+
+// What came of a run that ended so.
+fn shown_by(
+    alloc: Global,
+    ended: Result<(), LiveFault>,
+    is_spent: bool,
+    sink: &GateSink,
+) -> Result<Shown, Fail> {
     let text = text_of(alloc, sink.sink.held())?;
     Ok(Shown {
         ended,
@@ -263,8 +304,12 @@ fn ran_over<const TURNS: u32, R: Threads + Wait + Clock + Sync>(
 ) -> Result<(Result<(), LiveFault>, bool), Fail>
     requires { IsSound scenario.now }
 {
-    let mut sink = sink_of(alloc, 1 << 12, &[])?;
     let (hub, mut sessions) = open::<Gate<TURNS>>(alloc, scenario, PATIENCE_DEFAULT)?;
+    let Ok(mut sink) = sink_of(alloc, 1 << 12, &[]) else {
+        drop(sessions);
+        drop(hub);
+        return Err(Fail::from("no sink"));
+    };
     let sections = scenario.sections.as_slice();
     let ended = live(
         rt,
@@ -277,6 +322,7 @@ fn ran_over<const TURNS: u32, R: Threads + Wait + Clock + Sync>(
     let is_spent = hub.is_spent();
     drop(sessions);
     drop(hub);
+    drop(sink);
     Ok((ended, is_spent))
 }
 
@@ -289,33 +335,70 @@ LISTEN c
 NOTIFY c
 ";
 
+// Asserts that these sessions end, and that none waits in vain.
+fn assert_side_by_side<R: Threads + Wait + Clock + Sync + Abort>(
+    rt: &R,
+    alloc: Global,
+    scenario: &Scenario,
+) -> Result<(), Fail>
+    requires { IsSound scenario.now }
+{
+    let (ended, is_spent) = ran_over::<10_000_000, R>(rt, alloc, scenario)?;
+    assert!(rt; ended.is_ok());
+    assert!(rt; !is_spent);
+    Ok(())
+}
+
 // The first transaction waits for the other session's: on one thread it would spend its turns, and the reads find no memory.
 #[test]
 fn live_sessions_run_side_by_side(rt: HostRuntime) -> Result<(), Fail> {
-    let alloc = rt.alloc();
-    let scenario = scenario_of(alloc, TWO_LISTENERS)?;
-    let ran = ran_over::<10_000_000, HostRuntime>(&rt, alloc, &scenario);
+    let scenario = scenario_of(rt.alloc(), TWO_LISTENERS)?;
+    let done = assert_side_by_side(&rt, rt.alloc(), &scenario);
     drop(scenario);
-    assert!(rt; ran? == (Ok(()), false));
+    done
+}
+
+// Asserts how a self notify ends over a gate, whether it spends the turns, and what is written.
+fn assert_shown<const TURNS: u32, R: Threads + Wait + Clock + Sync + Abort>(
+    rt: &R,
+    alloc: Global,
+    ended: Result<(), LiveFault>,
+    is_spent: bool,
+    text: &str,
+) -> Result<(), Fail> {
+    let shown = shown_over::<TURNS, R>(rt, alloc, 1 << 12, &[])?;
+    let ends = shown.ended == ended && shown.is_spent == is_spent;
+    assert_text(rt, shown.text.as_str(), text);
+    drop(shown);
+    assert!(rt; ends);
     Ok(())
 }
 
 // A line is written while its session runs: else the transaction spends its turns, and the read behind it finds no memory.
 #[test]
 fn a_line_is_written_while_its_session_runs(rt: HostRuntime) -> Result<(), Fail> {
-    let shown = shown_over::<10_000_000, HostRuntime>(&rt, rt.alloc(), 1 << 12, &[])?;
-    assert!(rt; shown.ended.is_ok());
-    assert!(rt; !shown.is_spent);
-    assert_eq!(rt; shown.text.as_str(), SELF_NOTIFY_LINES);
-    Ok(())
+    assert_shown::<10_000_000, HostRuntime>(&rt, rt.alloc(), Ok(()), false, SELF_NOTIFY_LINES)
 }
 
 // Where the read finds no memory, the lines before it are written.
 #[test]
 fn want_of_memory_leaves_the_first_lines(rt: HostRuntime) -> Result<(), Fail> {
-    let shown = shown_over::<0, HostRuntime>(&rt, rt.alloc(), 1 << 12, &[])?;
-    assert!(rt; shown.ended == Err(LiveFault::Memory));
-    assert_eq!(rt; shown.text.as_str(), LINES_BEFORE_THE_READ);
+    let memory = Err(LiveFault::Memory);
+    assert_shown::<0, HostRuntime>(&rt, rt.alloc(), memory, true, LINES_BEFORE_THE_READ)
+}
+
+// Asserts that the write of this number that fails is told, and that what is written is a prefix.
+fn assert_cut<R: Threads + Wait + Clock + Sync + Abort>(
+    rt: &R,
+    alloc: Global,
+    call: u64,
+) -> Result<(), Fail> {
+    let shown = shown_over::<0, R>(rt, alloc, 4, &[call])?;
+    let ended = shown.ended;
+    let begins = LINES_BEFORE_THE_READ.starts_with(shown.text.as_str());
+    drop(shown);
+    assert!(rt; ended == Err(LiveFault::Write));
+    assert!(rt; begins);
     Ok(())
 }
 
@@ -323,10 +406,8 @@ fn want_of_memory_leaves_the_first_lines(rt: HostRuntime) -> Result<(), Fail> {
 #[test]
 fn a_failed_write_is_told_before_want_of_memory(rt: HostRuntime) -> Result<(), Fail> {
     let calls = (LINES_BEFORE_THE_READ.len() + 3) / 4;
-    for n in 1..calls as u64 {
-        let shown = shown_over::<0, HostRuntime>(&rt, rt.alloc(), 4, &[n])?;
-        assert!(rt; shown.ended == Err(LiveFault::Write));
-        assert!(rt; LINES_BEFORE_THE_READ.starts_with(shown.text.as_str()));
+    for call in 1..calls as u64 {
+        assert_cut(&rt, rt.alloc(), call)?;
     }
     Ok(())
 }

@@ -37,18 +37,42 @@ fn take<R: Wait>(rt: &R, outlet: &Outlet<u64>, pass: &mut OutletPass<u64>) -> Op
     }
 }
 
+// Pushes three numbers, for two sessions: answers whether all were put.
+fn push_three<R: Wait>(rt: &R, outlet: &Outlet<u64>, pass: &mut OutletPass<u64>) -> bool
+    requires own { IsPassOf outlet.now pass.old }
+    requires all { ((knows pass.old).first ≡ 1) × ((knows pass.old).count ≡ 256) }
+    ensures { IsPassOf outlet.now pass.new }
+{
+    let first = push(rt, outlet, pass, 1, 10);
+    let second = push(rt, outlet, pass, 256, 20);
+    let third = push(rt, outlet, pass, 1, 11);
+    first && second && third
+}
+
+// Whether the second number is taken, then the third one, and then none.
+fn takes_the_rest<R: Wait>(rt: &R, outlet: &Outlet<u64>, pass: &mut OutletPass<u64>) -> bool
+    requires own { IsPassOf outlet.now pass.old }
+    requires takes { (knows pass.old).takes ≡ true }
+{
+    let second = take(rt, outlet, pass);
+    let third = take(rt, outlet, pass);
+    let last = take(rt, outlet, pass);
+    second == Some((256, 20)) && third == Some((1, 11)) && last.is_none()
+}
+
 #[test]
 fn what_is_pushed_is_taken_in_its_order(rt: HostRuntime) -> Result<(), Fail> {
     let (outlet, mut pass, mut taker) = Outlet::open(rt.alloc())?;
-    assert!(rt; take(&rt, &outlet, &mut taker).is_none());
-    assert!(rt; push(&rt, &outlet, &mut pass, 1, 10));
-    assert!(rt; push(&rt, &outlet, &mut pass, 256, 20));
-    assert!(rt; push(&rt, &outlet, &mut pass, 1, 11));
-    assert!(rt; take(&rt, &outlet, &mut taker) == Some((1, 10)));
+    let before = take(&rt, &outlet, &mut taker);
+    let pushed = push_three(&rt, &outlet, &mut pass);
+    let first = take(&rt, &outlet, &mut taker);
     outlet.close(&mut pass, taker);
-    assert!(rt; take(&rt, &outlet, &mut pass) == Some((256, 20)));
-    assert!(rt; take(&rt, &outlet, &mut pass) == Some((1, 11)));
-    assert!(rt; take(&rt, &outlet, &mut pass).is_none());
+    let rest = takes_the_rest(&rt, &outlet, &mut pass);
+    drop(pass);
     outlet.destroy();
+    assert!(rt; before.is_none());
+    assert!(rt; pushed);
+    assert!(rt; first == Some((1, 10)));
+    assert!(rt; rest);
     Ok(())
 }

@@ -1,4 +1,4 @@
-use super::probe::{Rung, awaited_over};
+use super::probe::{Rung, assert_ends};
 use std::test::Fail;
 
 // So much patience is an hour.
@@ -16,15 +16,7 @@ NOTIFY c
 // Each session whom no bell wakes dozes for ever. Session b sends once session a dozes, and raises the flag once a has read.
 #[test]
 fn a_listener_that_awaits_is_rung(rt: HostRuntime) -> Result<(), Fail> {
-    let (seen, awaits) = awaited_over::<Rung<10_000_000>, HostRuntime>(
-        &rt,
-        rt.alloc(),
-        AWAITS,
-        HOUR,
-    )?;
-    assert_eq!(rt; (seen.ended, seen.is_spent), (true, false));
-    assert!(rt; awaits.as_slice() == [4].as_slice());
-    Ok(())
+    assert_ends::<Rung<10_000_000>, HostRuntime>(&rt, rt.alloc(), AWAITS, HOUR, &[4])
 }
 
 const WAITS_FOR_THE_OTHER: &str = "\
@@ -38,13 +30,5 @@ NOTIFY c
 // Likewise where session a has come to its end.
 #[test]
 fn a_listener_at_its_end_is_rung(rt: HostRuntime) -> Result<(), Fail> {
-    let (seen, awaits) = awaited_over::<Rung<10_000_000>, HostRuntime>(
-        &rt,
-        rt.alloc(),
-        WAITS_FOR_THE_OTHER,
-        HOUR,
-    )?;
-    assert_eq!(rt; (seen.ended, seen.is_spent), (true, false));
-    assert!(rt; awaits.is_empty());
-    Ok(())
+    assert_ends::<Rung<10_000_000>, HostRuntime>(&rt, rt.alloc(), WAITS_FOR_THE_OTHER, HOUR, &[])
 }

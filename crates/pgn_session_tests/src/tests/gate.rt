@@ -1,11 +1,12 @@
-use super::probe::{Gate, Probe, Watch, awaited_over, seen_over};
-use super::shown_over;
+use super::probe::{Gate, Probe, Watch, assert_ends, awaited_over, seen_over};
+use super::{assert_shows, shown_over};
 use pgn_base::{PATIENCE_DEFAULT, Seed, Sink, Source};
 use pgn_drill::drill_text;
 use pgn_hub::Hub;
 use pgn_memory::{MemSink, MemSource};
 use pgn_run::{Print, converse};
 use std::alloc::{AllocError, Global};
+use std::process::Abort;
 use std::sync::Wait;
 use std::test::Fail;
 use std::thread::Threads;
@@ -20,14 +21,13 @@ NOTIFY c
 
 #[test]
 fn sessions_run_side_by_side(rt: HostRuntime) -> Result<(), Fail> {
-    let seen = seen_over::<Gate<10_000_000>, HostRuntime>(
+    assert_ends::<Gate<10_000_000>, HostRuntime>(
         &rt,
         rt.alloc(),
         TWO_WRITERS,
         PATIENCE_DEFAULT,
-    )?;
-    assert_eq!(rt; (seen.ended, seen.is_spent), (true, false));
-    Ok(())
+        &[],
+    )
 }
 
 const TWO_LISTENERS: &str = "\
@@ -41,15 +41,16 @@ NOTIFY c
 
 #[test]
 fn a_run_takes_its_sessions_side_by_side(rt: HostRuntime) -> Result<(), Fail> {
-    let alloc = rt.alloc();
     let text = shown_over::<Probe<Gate<10_000_000>>, HostRuntime>(
         &rt,
-        alloc,
+        rt.alloc(),
         TWO_LISTENERS,
         PATIENCE_DEFAULT,
         Print::Text,
     )?;
-    assert!(rt; text.as_str().starts_with("journal 2\n"));
+    let begins = text.as_str().starts_with("journal 2\n");
+    drop(text);
+    assert!(rt; begins);
     Ok(())
 }
 
@@ -62,39 +63,34 @@ NOTIFY c, 'x'
 // A text that is made without the hub needs no memory of its reads.
 #[test]
 fn a_run_is_over_its_hub(rt: HostRuntime) -> Result<(), Fail> {
-    let alloc = rt.alloc();
-    let text = shown_over::<Probe<Gate<0>>, HostRuntime>(
+    assert_shows::<Probe<Gate<0>>, HostRuntime>(
         &rt,
-        alloc,
+        rt.alloc(),
         SELF_NOTIFY,
         PATIENCE_DEFAULT,
         Print::Text,
-    )?;
-    assert_eq!(rt; text.as_str(), "no memory");
-    Ok(())
+        "no memory",
+    )
 }
 
 // Nor does a summary that is reckoned without a run.
 #[test]
 fn a_drill_is_over_its_hub(rt: HostRuntime) -> Result<(), Fail> {
-    let alloc = rt.alloc();
-    let input = drill_text(alloc, 0, 1, 1)?;
-    let text = summary_of(&rt, alloc, &input);
+    let input = drill_text(rt.alloc(), 0, 1, 1)?;
+    let done = assert_no_summary(&rt, rt.alloc(), &input);
     drop(input);
-    let text = text?;
-    assert_eq!(rt; text.as_str(), "no memory");
-    Ok(())
+    done
 }
 
-// The summary of the drill that this input is, over a gate.
-fn summary_of<R: Threads + Wait + Clock + Sync>(
+// Asserts that the drill that this input is has no summary over a gate.
+fn assert_no_summary<R: Threads + Wait + Clock + Sync + Abort>(
     rt: &R,
     alloc: Global,
     input: &[u8],
-) -> Result<String, Fail> {
+) -> Result<(), Fail> {
     let print = Print::Summary { seed: 0, notes: 1 };
     let input = str::from_utf8(input)?;
-    shown_over::<Probe<Gate<0>>, R>(rt, alloc, input, PATIENCE_DEFAULT, print)
+    assert_shows::<Probe<Gate<0>>, R>(rt, alloc, input, PATIENCE_DEFAULT, print, "no memory")
 }
 
 // A client asks `LISTEN c` and `NOTIFY c, 'x'`, and terminates.
@@ -162,23 +158,25 @@ fn where_a_session_is_refused_memory_the_others_end(rt: HostRuntime) -> Result<(
         ONE_IS_REFUSED,
         3_600_000_000,
     )?;
-    assert_eq!(rt; (seen.ended, seen.begun), (false, 1));
-    assert!(rt; awaits.is_empty() || awaits.as_slice() == [4].as_slice());
+    let is_found = awaits.is_empty() || awaits.as_slice() == [4].as_slice();
+    drop(awaits);
+    assert!(rt; is_found);
+    assert!(rt; !seen.ended);
+    assert!(rt; seen.begun == 1);
     Ok(())
 }
 
 // Nothing is written then, of the others neither.
 #[test]
 fn where_a_session_is_refused_memory_nothing_is_written(rt: HostRuntime) -> Result<(), Fail> {
-    let text = shown_over::<Probe<Gate<0>>, HostRuntime>(
+    assert_shows::<Probe<Gate<0>>, HostRuntime>(
         &rt,
         rt.alloc(),
         ONE_IS_REFUSED,
         1000,
         Print::Text,
-    )?;
-    assert_eq!(rt; text.as_str(), "no memory");
-    Ok(())
+        "no memory",
+    )
 }
 
 const AWAITS_ITSELF: &str = "\
@@ -193,7 +191,8 @@ LISTEN c
 #[test]
 fn a_session_that_waits_looks_whether_it_was_woken(rt: HostRuntime) -> Result<(), Fail> {
     let seen = seen_over::<Gate<0>, HostRuntime>(&rt, rt.alloc(), AWAITS_ITSELF, 10)?;
-    assert_eq!(rt; (seen.ended, seen.wake_looks), (true, 13));
+    assert!(rt; seen.ended);
+    assert!(rt; seen.wake_looks == 13);
     Ok(())
 }
 
@@ -214,6 +213,7 @@ UNLISTEN d
 #[test]
 fn a_session_tells_its_channels_where_it_has_acted(rt: HostRuntime) -> Result<(), Fail> {
     let seen = seen_over::<Watch<0>, HostRuntime>(&rt, rt.alloc(), LISTENS_AND_UNLISTENS, 10)?;
-    assert_eq!(rt; (seen.ended, seen.interests), (true, 3));
+    assert!(rt; seen.ended);
+    assert!(rt; seen.interests == 3);
     Ok(())
 }

@@ -8,6 +8,7 @@ use pgn_hub::{Hub, PassView, Roll, Setup};
 use pgn_wordhub::WordHub;
 use std::alloc::{AllocError, Global};
 use std::marker::PhantomData;
+use std::process::Abort;
 use std::sync::atomic::{AtomicU64, Ordering};
 use std::sync::{Arc, Wait};
 use std::test::Fail;
@@ -209,6 +210,30 @@ pub(super) fn seen_over<P: Pace + Sync + Drop, R: Threads + Wait + Clock + Sync>
     let (seen, awaits) = awaited_over::<P, R>(rt, alloc, input, patience)?;
     drop(awaits);
     Ok(seen)
+}
+
+// Asserts that all came to their ends, that nobody waited for others in vain, and what their awaits did.
+pub(super) fn assert_seen(rt: &impl Abort, seen: Seen, awaits: Vec<u64>, want: &[u64]) {
+    let are_these = awaits.as_slice() == want;
+    drop(awaits);
+    assert!(rt; are_these);
+    assert!(rt; seen.ended);
+    assert!(rt; !seen.is_spent);
+}
+
+// Asserts this of the sessions of an input at this pace, with so much patience.
+pub(super) fn assert_ends<P: Pace + Sync + Drop, R: Threads + Wait + Clock + Sync + Abort>(
+    rt: &R,
+    alloc: Global,
+    input: &str,
+    patience: u64,
+    want: &[u64],
+) -> Result<(), Fail>
+    requires { 1 ≤ patience }
+{
+    let (seen, awaits) = awaited_over::<P, R>(rt, alloc, input, patience)?;
+    assert_seen(rt, seen, awaits, want);
+    Ok(())
 }
 
 impl<P: Pace> Hub for Probe<P> {

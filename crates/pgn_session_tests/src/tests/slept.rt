@@ -3,7 +3,7 @@ ghost use Rattle.std.specs.Thread.{IsSync, IsSend};
 ghost use Rattle.pgn_session.specs.Runs.{IsReady};
 
 use super::opened;
-use super::probe::{Pace, Probe, Seen, Watch};
+use super::probe::{Pace, Probe, Seen, Watch, assert_seen};
 use super::turns::awaits_of;
 use pgn_base::PAGES_DEFAULT;
 use pgn_hub::{Hub, PassView};
@@ -108,7 +108,6 @@ fn sessions_that_take_turns_count_no_more_than_they_sleep(rt: HostRuntime) -> Re
         RAISED_LATE,
         1_000_000,
     )?;
-    assert_eq!(rt; (seen.ended, seen.is_spent), (true, false));
-    assert!(rt; awaits.as_slice() == [15, 15].as_slice());
+    assert_seen(&rt, seen, awaits, &[15, 15]);
     Ok(())
 }

@@ -1,10 +1,13 @@
-use super::probe::{Watch, seen_over};
-use super::shown_over;
+use super::probe::{Watch, assert_ends};
+use super::{assert_shows, shown_over};
 use pgn_memory::repeated;
 use pgn_run::Print;
 use pgn_wordhub::WordHub;
 use std::alloc::{AllocError, Global};
+use std::sync::Wait;
 use std::test::Fail;
+use std::thread::Threads;
+use std::time::Clock;
 
 const READS_WHILE_IT_WAITS: &str = "\
 \\session a 1
@@ -20,14 +23,13 @@ NOTIFY c
 // Session b sends once a session has slept, and raises the flag that session a awaits once a has read.
 #[test]
 fn a_listener_reads_while_it_sleeps_for_a_flag(rt: HostRuntime) -> Result<(), Fail> {
-    let seen = seen_over::<Watch<10_000_000>, HostRuntime>(
+    assert_ends::<Watch<10_000_000>, HostRuntime>(
         &rt,
         rt.alloc(),
         READS_WHILE_IT_WAITS,
         u64::MAX,
-    )?;
-    assert_eq!(rt; (seen.ended, seen.is_spent), (true, false));
-    Ok(())
+        &[4, 3],
+    )
 }
 
 // A session that awaits a flag which another one raises after 1,000 lines.
@@ -52,21 +54,24 @@ fn behind(alloc: Global, first: &str, second: &str) -> Result<String, AllocError
     Ok(text)
 }
 
-// So much patience is a second where it is slept, and some looks where it is counted alone.
+// Whether it is found. So much patience is a second where it is slept, and some looks where it is counted alone.
+fn is_found<R: Threads + Wait + Clock + Sync>(
+    rt: &R,
+    alloc: Global,
+    input: &str,
+) -> Result<bool, Fail> {
+    let text = shown_over::<WordHub, R>(rt, alloc, input, 1_000_000, Print::Text)?;
+    let is = text.as_str().contains("> \\await f\n+await 1003\nend\n");
+    drop(text);
+    Ok(is)
+}
+
 #[test]
 fn a_flag_that_is_raised_late_is_found(rt: HostRuntime) -> Result<(), Fail> {
-    let alloc = rt.alloc();
-    let input = late_flag(alloc)?;
-    let text = shown_over::<WordHub, HostRuntime>(
-        &rt,
-        alloc,
-        input.as_str(),
-        1_000_000,
-        Print::Text,
-    );
+    let input = late_flag(rt.alloc())?;
+    let is = is_found(&rt, rt.alloc(), input.as_str());
     drop(input);
-    let text = text?;
-    assert!(rt; text.as_str().contains("> \\await f\n+await 1003\nend\n"));
+    assert!(rt; is?);
     Ok(())
 }
 
@@ -80,16 +85,12 @@ const AWAITS_ITSELF: &str = "\
 fn a_flag_that_nobody_raises_is_waited_for_as_long_as_the_patience(
     rt: HostRuntime,
 ) -> Result<(), Fail> {
-    let text = shown_over::<WordHub, HostRuntime>(
+    assert_shows::<WordHub, HostRuntime>(
         &rt,
         rt.alloc(),
         AWAITS_ITSELF,
         20_000,
         Print::Text,
-    )?;
-    assert_eq!(rt;
-        text.as_str(),
-        "journal 0\nsession 1 a db 1 pid 1001\n> \\await f\n+timeout 20000\n> \\signal f\n+signal 3\nend\n"
-    );
-    Ok(())
+        "journal 0\nsession 1 a db 1 pid 1001\n> \\await f\n+timeout 20000\n> \\signal f\n+signal 3\nend\n",
+    )
 }
