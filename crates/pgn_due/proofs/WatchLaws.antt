@@ -68,15 +68,18 @@ took_one old new from channel one first feed db drops = record {
 
 -- an action, as its channel comes in or goes
 
+-- two tests of three, and nothing besides
 or_assoc : (a b : Bool) → (a || (b || false)) ≡ (a || b)
 or_assoc true b = refl
 or_assoc false true = refl
 or_assoc false false = refl
 
+-- a test, or nothing besides
 or_false : (b : Bool) → (b || false) ≡ b
 or_false true = refl
 or_false false = refl
 
+-- a channel that is there already adds none
 more_there : (set : List (List ℕ)) (channel other : List ℕ) → has_name set channel ≡ true → has_name set other ≡ (has_name set other || bytes_eq other channel)
 more_there set channel other there = elim (cases_Bool (bytes_eq other channel)) [
   | inl same ↦
@@ -93,6 +96,7 @@ is_more set channel = λ other. elim (cases_Bool (has_name set channel)) [
       ap (λ (b : Bool). has_name (cond b set (set ++ channel ∷ [])) other) absent ∙ list_any-append (bytes_eq other) set (channel ∷ []) ∙ or_assoc (has_name set other) (bytes_eq other channel)
 ]
 
+-- a name of the channel that goes is none of the set any more
 less_same : (other channel one : List ℕ) (set : List (List ℕ)) → channel ≡ one → (has_name set other && not (bytes_eq other channel)) ≡ ((bytes_eq other one || has_name set other) && not (bytes_eq other channel))
 less_same other channel one set e = subst (λ (c : List ℕ). (has_name set other && not (bytes_eq other channel)) ≡ ((bytes_eq other c || has_name set other) && not (bytes_eq other channel))) e
     (elim (cases_Bool (bytes_eq other channel)) [
@@ -100,6 +104,7 @@ less_same other channel one set e = subst (λ (c : List ℕ). (has_name set othe
       | inr off ↦ grind (arith, off)
     ])
 
+-- of another name nothing changes
 less_other : (other channel one : List ℕ) (set : List (List ℕ)) → bytes_eq channel one ≡ false
     → (bytes_eq other one || (has_name set other && not (bytes_eq other channel))) ≡ ((bytes_eq other one || has_name set other) && not (bytes_eq other channel))
 less_other other channel one set apart = elim (cases_Bool (bytes_eq other one)) [
@@ -143,10 +148,12 @@ unlistened old new from channel h = record {
   next = λ set are other e. subst (λ (s : List (List ℕ)). AreNext old.db s (sent_of old) from (keeps new)) (sym e) (h.next set are (after_action set (Unlisten channel)) (is_less channel set));
 }
 
+-- a list of no length is empty
 nil_of_none : (keys : List ℕ) → (0 < length keys → false ≡ true) → keys ≡ []
 nil_of_none [] none = refl
 nil_of_none (k ∷ keys) none = absurd (false≢true (none (omega arith)))
 
+-- a watch without places keeps none
 keeps_none : (next : BTreeSet ℕ) → next.keys ≡ [] → (at : ℕ) → contains nat_cmp next at ≡ false
 keeps_none next e at = grind (arith, e)
 
@@ -164,6 +171,7 @@ unlistened_all old new from feed db none = record {
 
 -- What is due comes first, or does not.
 
+-- where nothing is found, there is nothing
 nil_of_map : (xs : List (ℕ × Delivery)) → map (λ (one : ℕ × Delivery). one.1) xs ≡ [] → xs ≡ []
 nil_of_map [] e = refl
 nil_of_map (x ∷ xs) e = absurd (let no : ⊥ = cc in no)
@@ -231,6 +239,7 @@ pass_other end place old d s b on least lt e test off = λ from le. record {
       false≢true (sym off ∙ test.1 same);
 }
 
+-- what passes at a place is on the channel of what was sent there
 its_channel : (db : ℕ) (channel : List ℕ) (sent : List (ℕ × Delivery)) (place : ℕ) (s : ℕ × Delivery) → slice_get sent place ≡ Some s → passes (is_on db channel) sent place ≡ true
     → passes (is_on db s.1.note.channel) sent place ≡ true
 its_channel db channel sent place s e h =
@@ -238,6 +247,7 @@ its_channel db channel sent place s e h =
     passes_at (is_on db s.1.note.channel) sent place s e
     ∙ two (s.0 == db) (bytes_eq s.1.note.channel s.1.note.channel) (both (s.0 == db) (bytes_eq channel s.1.note.channel) on).0 (bytes_same s.1.note.channel s.1.note.channel refl)
 
+-- what is next passes, and the watch goes on to the next place on its channel
 pass_on : (end place : ℕ) (old new : Watch) (d : Delivery) (s : ℕ × Delivery) (b : Bool) (one : Option ℕ) (mid : ℕ → Bool) → keeps old place ≡ true → ((at : ℕ) → keeps old at ≡ true → place ≤ at) → place < end
     → slice_get (sent_of old) place ≡ Some s → (b ≡ true) ↔ (d ≡ s.1) → b ≡ true → IsFirst (is_on old.db s.1.note.channel) (sent_of old) (place + 1) one → new.feed ≡ old.feed → new.db ≡ old.db
     → Drops (Some place) (keeps old) mid → Adds one mid (keeps new) → Passes end old d true new
@@ -254,11 +264,13 @@ pass_on end place old new d s b one mid on least lt e test holds first feed db d
       };
 }
 
+-- the next place on a channel is another than this one
 not_itself : (test : ℕ × Delivery → Bool) (sent : List (ℕ × Delivery)) (place : ℕ) (one : Option ℕ) → IsFirst test sent (place + 1) one → one ≡ Some place → ⊥
 not_itself test sent place one first same =
     let here = subst (λ (o : Option ℕ). IsFirst test sent (place + 1) o) same first in
     omega (arith, here.0)
 
+-- two tests that are not both met may be asked in either order
 turned : (here there was : Bool) → (here ≡ true → there ≡ true → ⊥) → cond here false (cond there true was) ≡ cond there true (cond here false was)
 turned true true was apart = absurd (apart refl refl)
 turned true false was apart = refl
@@ -313,6 +325,7 @@ taken_first end old = λ from le. record {
 same_watch : (P : List (ℕ × Delivery) → ℕ → Type 0) (old new : Watch) → new.feed ≡ old.feed → new.db ≡ old.db → P (sent_of new) new.db → P (sent_of old) old.db
 same_watch P old new feed db h = subst (λ (d : ℕ). P (sent_of old) d) db (subst (λ (f : _). P (sent_in f.now.sends.journal.now) new.db) feed h)
 
+-- and one of what it was is one of the watch
 watch_same : (P : List (ℕ × Delivery) → ℕ → Type 0) (old new : Watch) → new.feed ≡ old.feed → new.db ≡ old.db → P (sent_of old) old.db → P (sent_of new) new.db
 watch_same P old new feed db h = subst (λ (d : ℕ). P (sent_of new) d) (sym db) (subst (λ (f : _). P (sent_in f.now.sends.journal.now) old.db) (sym feed) h)
 
@@ -342,6 +355,7 @@ record HasRead (journal : List Tx) (db : ℕ) (set : List (List ℕ)) (mark to :
   pub within : now.db ≡ db
   pub passed : HasPassed db set (sent_in journal) (sent_before journal mark) (sent_before journal to) got (keeps now)
 
+-- what a watch got, from where it stood on, is what is due up to its end
 has_read : (journal : List Tx) (db : ℕ) (set : List (List ℕ)) (mark to end : ℕ) (got : List Delivery) (old now : Watch) → mark ≤ to → IsWatch journal db set (Some mark) old → end ≡ sent_before (journal_of old) to
     → HasTaken end old got now → HasRead journal db set mark to got now
 has_read journal db set mark to end got old now le h is taken =
@@ -455,6 +469,7 @@ pub record HasBegun (from : ℕ) (old : Watch) (names : List (List ℕ)) (now : 
   pub db : now.db ≡ old.db
   pub next : AreNext old.db names (sent_of old) from (keeps now)
 
+-- one name behind the others is one channel more
 more_name : (names : List (List ℕ)) (name : List ℕ) → IsMore name names (names ++ name ∷ [])
 more_name names name = λ other. list_any-append (bytes_eq other) names (name ∷ []) ∙ or_assoc (has_name names other) (bytes_eq other name)
 

@@ -25,6 +25,7 @@ use Rattle.pgn_lines.specs.declared.shown.Shown.TheVariants.{Journal, Committed,
 use Rattle.pgn_lines.proofs.FieldLaws.{AreDigits}
 use Rattle.pgn_lines.proofs.PartLaws.{are_digits}
 
+-- one byte of ASCII
 one : (b : ℕ) → b < 128 → IsUtf8 (b ∷ [])
 one b l = IsUtf8-from_ascii (b ∷ []) (IsAscii-cons b [] l IsAscii-nil)
 
@@ -33,22 +34,27 @@ abbrev is_plain : List ℕ → Bool
 is_plain [] = true
 is_plain (b ∷ bytes) = nat_lt b 128 && is_plain bytes
 
+-- where both of two tests are passed, the first is
 both_first : (a b : Bool) → (a && b) ≡ true → a ≡ true
 both_first true b h = refl
 both_first false b h = h
 
+-- and the second
 both_second : (a b : Bool) → (a && b) ≡ true → b ≡ true
 both_second true b h = h
 both_second false b h = absurd (let no : ⊥ = cc in no)
 
+-- bytes of ASCII are UTF-8
 plain : (bytes : List ℕ) → is_plain bytes ≡ true → IsUtf8 bytes
 plain [] h = IsUtf8-nil
 plain (b ∷ bytes) h = IsUtf8-append (b ∷ []) bytes (one b ((Decides-ltb b 128).0 (both_first (nat_lt b 128) (is_plain bytes) h))) (plain bytes (both_second (nat_lt b 128) (is_plain bytes) h))
 
+-- digits are UTF-8
 digits : (bytes : List ℕ) → AreDigits bytes → IsUtf8 bytes
 digits [] h = IsUtf8-nil
 digits (b ∷ bytes) h = IsUtf8-append (b ∷ []) bytes (one b (omega (arith, h.0))) (digits bytes h.1)
 
+-- a number in decimal
 number : (n : ℕ) → n < 2 ^ 64 → IsUtf8 (decimal n)
 number n h = digits (decimal n) (are_digits n h)
 
@@ -66,9 +72,11 @@ seam a b x h =
     let at : get_or (a ++ x ∷ b) (length a) 0 ≡ x = ap (λ (n : ℕ). get_or (a ++ x ∷ b) n 0) (let n : length a ≡ length a + 0 = omega arith in n) ∙ get_or-append-add a (x ∷ b) 0 0 in
     IsCharBoundary-before_ascii (a ++ x ∷ b) (length a) (omega (arith, length-append a (x ∷ b))) (omega (arith, at, h))
 
+-- what stands before an ASCII byte of a text is UTF-8
 front : (a b : List ℕ) (x : ℕ) → x < 128 → IsUtf8 (a ++ x ∷ b) → IsUtf8 a
 front a b x h u = subst (λ (l : List ℕ). IsUtf8 l) (take_at a (x ∷ b) (length a) refl) (IsUtf8-take (a ++ x ∷ b) (length a) u (seam a b x h))
 
+-- what stands behind one
 back : (a b : List ℕ) (x : ℕ) → x < 128 → IsUtf8 (a ++ x ∷ b) → IsUtf8 b
 back a b x h u =
     let rest : IsUtf8 (x ∷ b) = subst (λ (l : List ℕ). IsUtf8 l) (drop_at a (x ∷ b) (length a) refl) (IsUtf8-drop (a ++ x ∷ b) (length a) u (seam a b x h)) in
@@ -91,18 +99,22 @@ doubled quote l before (b ∷ text) u = elim (cases_Bool (b == quote)) [
       (subst (λ (l : List ℕ). IsUtf8 l) (append_assoc before (b ∷ []) (flat_map (doubled_byte quote) text)) rest)
 ]
 
+-- a text in quotes
 between : (quote : ℕ) (text : List ℕ) → quote < 128 → IsUtf8 text → IsUtf8 (quoted quote text)
 between quote text l u = IsUtf8-append (quote ∷ flat_map (doubled_byte quote) text) (quote ∷ []) (IsUtf8-append (quote ∷ []) (flat_map (doubled_byte quote) text) (one quote l) (doubled quote l [] text u)) (one quote l)
 
+-- a notification as a line shows it
 note_utf8 : (note : Note) → IsNote note → IsUtf8 (note_text note)
 note_utf8 note h =
     IsUtf8-append (quoted 34 note.channel ++ codes ", ") (quoted 39 note.payload)
     (IsUtf8-append (quoted 34 note.channel) (codes ", ") (between 34 note.channel (omega arith) h.name.text) (plain (codes ", ") refl)) (between 39 note.payload (omega arith) h.text.text)
 
+-- who holds a page, or nobody
 holder_utf8 : (holder : Option ℕ) → IfSome holder IsSession → IsUtf8 (holder_text holder)
 holder_utf8 None h = plain (codes "none") refl
 holder_utf8 (Some session) h = number session (omega (arith, h.1))
 
+-- each tag of a command's answer
 tag_utf8 : (done : Tag) → IsHeld (Tagged done) → IsUtf8 (tag_text done)
 tag_utf8 tag.Begin h = plain (codes "BEGIN") refl
 tag_utf8 tag.Start h = plain (codes "START TRANSACTION") refl

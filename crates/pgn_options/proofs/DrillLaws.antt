@@ -205,13 +205,16 @@ value-turn p t w h =
     ap (λ (k : Kinds). or_else k (step_fault drill_built (position_at p) (word_met rules [] t idle (position_at p) w (held_at p)).0 (word_met rules [] t idle (position_at p) w (held_at p)).1)) h.fine
     ∙ ap (λ (m : Held × Step). step_fault drill_built (position_at p) m.0 m.1) h.met
 
+-- the walk over the words goes on behind a value
 value-walk : (p : Placed) (t : Bool) (w : Text) → IsValue p t w → walked rules [] (at p t) w ≡ after_step rules w (at p t) (held_at p) value
 unfolding walked
 value-walk p t w h = ap (λ (m : Held × Step). after_step rules w (at p t) m.0 m.1) h.met
 
+-- what is to be shown of the words that are left, from each place on
 abbrev Claim : Bool → List Text → Type 0
 Claim t words = (p : Placed) → Agrees IsDrill (with_more p (left t words)) (total drill_built (at p t) words) (found drill_built (at p t) words)
 
+-- a word that is a value goes to the place that is next
 place : (t : Bool) (w : Text) (words : List Text) → Claim t words → (p : Placed) → IsValue p t w
     → Agrees IsDrill (with_more p (w ∷ left t words)) (total drill_built (at p t) (w ∷ words)) (found drill_built (at p t) (w ∷ words))
 place t w words claim p0 h =

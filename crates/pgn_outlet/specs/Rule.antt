@@ -31,6 +31,7 @@ pub record Comes {T : Type 0} (items : List (Came T)) (views : List (Hand T)) : 
   pub taken : List (Came T)
   pub fits : Each (Fits owner taker taken (taken ++ items)) views
 
+-- a pass: the first of its sessions, how many it has, what it pushed for them, whether it takes, and what it took
 abbrev pub hand : {T : Type 0} → ℕ → ℕ → List (Came T) → Bool → List (Came T) → Hand T
 hand first count sent takes got = record { first = first; count = count; sent = sent; takes = takes; got = got }
 
@@ -42,6 +43,7 @@ first_hand = hand 1 256 [] true []
 abbrev pub sender : {T : Type 0} → Hand T
 sender = hand 1 256 [] false []
 
+-- and that which takes
 abbrev pub taker : {T : Type 0} → Hand T
 taker = hand 1 0 [] true []
 
@@ -49,6 +51,7 @@ taker = hand 1 0 [] true []
 abbrev pub sends_alone : {T : Type 0} → Hand T → Hand T
 sends_alone v = record v { takes = false; got = [] }
 
+-- and that which has it
 abbrev pub takes_alone : {T : Type 0} → Hand T → Hand T
 takes_alone v = hand 1 0 [] true v.got
 
@@ -56,6 +59,7 @@ takes_alone v = hand 1 0 [] true v.got
 abbrev pub lower : {T : Type 0} → ℕ → Hand T → Hand T
 lower size v = record v { count = size }
 
+-- and the sessions behind them
 abbrev pub upper : {T : Type 0} → ℕ → Hand T → Hand T
 upper size v = hand (v.first + size) (v.count - size) [] false []
 
@@ -63,6 +67,7 @@ upper size v = hand (v.first + size) (v.count - size) [] false []
 abbrev pub joined : {T : Type 0} → Hand T → Hand T → Hand T
 joined v w = record v { count = v.count + w.count; sent = v.sent ++ w.sent }
 
+-- and that which has the other's taking
 abbrev pub taken_over : {T : Type 0} → Hand T → Hand T → Hand T
 taken_over v w = record v { takes = true; got = w.got }
 
@@ -74,6 +79,7 @@ spent = hand 1 0 [] false []
 abbrev pub with_sent : {T : Type 0} → Hand T → Came T → Hand T
 with_sent v came = record v { sent = v.sent ++ came ∷ [] }
 
+-- and one that has taken this besides
 abbrev pub with_got : {T : Type 0} → Hand T → Came T → Hand T
 with_got v came = record v { got = v.got ++ came ∷ [] }
 

@@ -81,12 +81,15 @@ high-at c k l m = elim (cases_lt (get_or (encode c) k 0) 128) [
   | inr high ↦ high
 ]
 
+-- each byte of a character past ASCII is
 pub high-encode : (c : ℕ) → 128 ≤ c → AreHigh (encode c)
 high-encode c l = high-from (encode c) (λ k m. high-at c k l m)
 
+-- a greater byte is another
 differs : (b k : ℕ) → k < b → (b == k) ≡ false
 differs b k l = grind (arith, nat_tests)
 
+-- a byte past ASCII is none that begins or ends a comment, a quote or a line
 other-high : (b : ℕ) → 128 ≤ b → Other b
 other-high b l = record {
   feed = differs b 10 (omega arith);
@@ -109,6 +112,7 @@ settled (Star depth) = Comment depth
 settled (Open depth) = Comment depth
 settled Rest = Rest
 
+-- what of such bytes is given in a mode: all outside comments, nothing in one
 abbrev kept : Mode → List ℕ → List ℕ
 kept Outside bytes = bytes
 kept Slash bytes = bytes
@@ -211,10 +215,12 @@ run-first mode b bytes rest h =
     ∙ append_assoc (held mode) (kept mode (b ∷ [])) (kept (settled mode) bytes ++ plain_from (settled mode) rest)
     ∙ ap (λ (some : List ℕ). held mode ++ some) (sym (append_assoc (kept mode (b ∷ [])) (kept (settled mode) bytes) (plain_from (settled mode) rest)) ∙ ap (λ (some : List ℕ). some ++ plain_from (settled mode) rest) (sym (kept-cons mode b bytes)))
 
+-- some bytes past ASCII, in any mode
 run-of : (mode : Mode) (bytes rest : List ℕ) → AreHigh bytes → 0 < length bytes → plain_from mode (bytes ++ rest) ≡ held mode ++ (kept mode bytes ++ plain_from (settled mode) rest)
 run-of mode [] rest h l = absurd (omega arith)
 run-of mode (b ∷ bytes) rest h l = run-first mode b bytes rest h
 
+-- what is given of a text in a mode is text
 kept-text : (mode : Mode) (bytes : List ℕ) → IsUtf8 bytes → IsUtf8 (kept mode bytes)
 kept-text Outside bytes u = u
 kept-text Slash bytes u = u
@@ -226,12 +232,15 @@ kept-text (Star depth) bytes u = IsUtf8-nil
 kept-text (Open depth) bytes u = IsUtf8-nil
 kept-text Rest bytes u = IsUtf8-nil
 
+-- one character is text
 one_char : (c : ℕ) → scalar c ≡ true → IsUtf8 (encode c)
 one_char c s = (c ∷ [], (and_from (scalar c) true s refl, append-nil (encode c)))
 
+-- a character has a byte
 some_bytes : (c : ℕ) → 0 < length (encode c)
 some_bytes c = omega (arith, length-encode c, (len_utf8_bounds c).0)
 
+-- characters without their comments, from any mode on, are text
 chars-text : (mode : Mode) (cs : List ℕ) → scalars cs ≡ true → IsUtf8 (plain_from mode (encodes cs))
 chars-text mode [] s = end-text mode
 chars-text mode (c ∷ cs) s =

@@ -98,6 +98,7 @@ pub record IsDueEntry (format : Format) (db : ℕ) (seen : List Tx) (bytes : Lis
   pub of_db : sender.db ≡ db
   pub numbered : IsNumbered FIRST_XID (next_xid seen) (AnEntry note sender)
 
+-- bytes are those of some such entry
 pub record HasDueEntry (format : Format) (db : ℕ) (seen : List Tx) (bytes : List ℕ) : Type 0 where
   pub note : Note
   pub sender : Sender
@@ -110,6 +111,7 @@ pub record IsEntryAt (format : Format) (cells : List (Option ℕ)) (at len db : 
   pub of_db : sender.db ≡ db
   pub numbered : IsNumbered FIRST_XID (next_xid seen) (AnEntry note sender)
 
+-- some such entry lies there
 pub record HasEntryAt (format : Format) (cells : List (Option ℕ)) (at len db : ℕ) (seen : List Tx) : Type 0 where
   pub note : Note
   pub sender : Sender

@@ -40,7 +40,7 @@ pub alone : (lock holder : ℕ) (views : List View) (id : ℕ) (v : View) → Lo
     → (j : ℕ) (u : View) → j ≢ id → get_elem? views j ≡ some u → holds_lock u.phase ≡ true → ⊥
 alone lock holder views id v h here held j u other there also = other ((h.locks j u there also).0 ∙ sym (h.locks id v here held).0)
 
--- a pass that does not hold the lock keeps whatever the holder knows
+-- a pass whose phase does not hold the lock is free
 pub free_holds : (phase : Phase) → (holds_lock phase ≡ true → ⊥) → phase ≡ Free
 free_holds Free nothing = refl
 free_holds Held nothing = absurd (nothing refl)

@@ -32,6 +32,8 @@ use Rattle.pgn_words.proofs.TakenLaws.{seat_moved, seat_stays, seat_goes, each_t
 all_joined : (P : Known → Type 0) (js us : List Known) (k : Known) → All P js → All P us → P k → All P (js ++ us ++ k ∷ [])
 all_joined P js us k a b mine = All-append P (js ++ us) (k ∷ []) (All-append P js us a b) (All-cons P k [] mine (All-nil P))
 
+-- two passes made one: the rule holds of the words with the one that took the other in, whose seats it now has, and of the other, that has
+-- nothing left
 takes_in : (z : Shape) (c : Content) (g : World) (views : List View) (id other : ℕ) (v u : View) → Law z c g views → get_elem? views id ≡ some v → get_elem? views other ≡ some u → other ≢ id
     → 0 < v.known.session → 0 < u.known.session → u.phase ≡ Free → u.post.listen ≡ Out
     → Law z c (record g { seat = seat_moved other id g.seat }) (set (set views id (taken_in v u)) other spent_view)
