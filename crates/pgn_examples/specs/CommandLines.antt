@@ -137,7 +137,7 @@ wrong_numbers =
     ∷ (codes "serve" ∷ codes "--seats=" ∷ [])
     ∷ []
 
--- words of which one is too many, too few, or in a wrong place
+-- words of which one is not known, too many, too few, or in a wrong place
 abbrev pub wrong_words : List Line
 wrong_words =
     []

@@ -15,7 +15,7 @@ pub fn entry_bytes()
     ensures longest { entry_length One longest_note ≡ 8080 }
 {}
 
-/// The bytes of an entry of format Two, and the lengths of two more.
+/// The bytes of two entries and of a filler of format Two, and the lengths of three.
 pub fn entry_bytes_of_two()
     ensures shortest { spelled Two bare_note 7 4 1003 ≡ bare_bytes_two }
     ensures least { entry_length Two bare_note ≡ 32 }
