@@ -746,10 +746,13 @@ class Project:
     def ghost_names(self, item):
         pieces = [('field' if item.kind in ('definition', 'type') else 'ghost', name, tokens) for name, tokens in item.parts]
         pieces += [('clause', name, tokens) for kind, name, line, tokens in item.clauses]
+        taken = {token.text for pattern, kind in item.params or () for token in pattern or () if token.kind == 'id'}
         for how, name, tokens in pieces:
             if how == 'field' and item.kind == 'type' and not name:
                 continue
             for token, path in names_in(tokens):
+                if how == 'clause' and path[:1] == [token.text] and token.text in taken:
+                    continue  # what the function takes
                 self.add(self.ghost_item(item, path), item, how, name, token.line)
 
     def to_trait(self, item):
