@@ -1854,7 +1854,8 @@ def kept_on(answers, is_on):
 
 def is_refuted(answer):
     """Whether an answer says only that its clause does not ask anything in this case."""
-    return re.search(r'=\s+(λ [^.]*\.\s+)?absurd\b', text_of(answer)) is not None
+    # its equation, and not a field of a record in it
+    return re.search(r'(?m)^\s*(pub )?' + re.escape(answer.name) + r'(?![\w\'-])[^=:]*=\s+(λ [^.]*\.\s+)?absurd\b', text_of(answer)) is not None
 
 
 def goal_of(answer):
