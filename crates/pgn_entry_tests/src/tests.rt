@@ -1,5 +1,3 @@
-// A module for each part; two for the formats of `pgn_entry`.
+// A module for each part.
 mod entries;
-mod entries_two;
 mod lanes;
-mod layout;
