@@ -1,4 +1,4 @@
-//! One notification from a writer to a listener, by the cells of its entry.
+//! One notification from a writer, by the cells of its entry, and the wake that it sets.
 ghost use Rattle.std.specs.Prelude.{◌≡◌, ◌+◌, ◌<◌, ◌≤◌, ◌⊎◌, ◌==◌, not, true, length, map, slice_set, Some, IfOk, IfSome, [], ◌∷◌};
 ghost use Rattle.pgn_base.specs.declared.format.Format.TheVariants.{One};
 ghost use Rattle.pgn_hub.specs.Shape.{notes_of_seats};
@@ -14,15 +14,15 @@ ghost use Rattle.pgn_words.specs.declared.view.Phase.TheVariants as phases;
 ghost use Rattle.pgn_words.specs.declared.view.Stage.TheVariants as stages;
 ghost use Rattle.pgn_words.specs.declared.view.Verdict.TheVariants as verdicts;
 
-use super::{draw, get_ready, holder, join, open_two};
-use pgn_base::{Name, Note, PID_BASE, Payload, SessionNo, Xid};
+use super::{draw, get_ready, join, open_two};
+use pgn_base::{Name, Note, PID_BASE, Payload, Xid};
 use pgn_hub::PassView;
 use pgn_journal::Fate;
 use pgn_layout::Pos;
 use pgn_words::{PosWord, WordPass, WordQueue};
-use std::alloc::Global;
-use std::process::Abort;
-use std::test::Fail;
+use std::alloc::{AllocError, Global};
+use std::sync::Wait;
+use std::thread;
 
 // The cells of the entry of a notification on the channel `virtual`, in database 1, of transaction 3 by process 1001.
 const ENTRY: [u32; 11] = [
@@ -51,15 +51,17 @@ fn entry_of(number: u32, pid: u32) -> [u32; 11]
 }
 
 // The notification on the channel `virtual`.
-pub(crate) fn virtual_note(alloc: Global) -> Result<Note, Fail>
+pub(super) fn virtual_note(alloc: Global) -> Result<Note, AllocError>
     ensures { IfOk result (λ note. note ≡ virtual_note) }
 {
-    let channel = Name::new(alloc, "virtual")?;
+    let Ok(channel) = Name::new(alloc, "virtual") else {
+        return Err(AllocError);
+    };
     match Payload::new(alloc, "This is the payload") {
         Ok(payload) => Ok(Note { channel, payload }),
         Err(_) => {
             drop(channel);
-            Err(Fail::from("no memory"))
+            Err(AllocError)
         }
     }
 }
@@ -75,7 +77,7 @@ fn begin(queue: &WordQueue, pass: &mut WordPass, notes: &[Note; 1]) -> Option<(u
     ensures reach { IfSome result (λ _. length (known_of pass.new).seen < notes_of_seats (shape_of queue.now).seats) }
     ensures post { IfSome result (λ _. (view_of pass.new).post ≡ (view_of pass.old).post) }
 {
-    let (head, _) = get_ready(queue, pass);
+    let head = get_ready(queue, pass);
     let xid = draw(queue, pass, notes)?;
     let at = head.get();
     if (at != 0 && at != 11) || pass.db().get() != 1 {
@@ -102,24 +104,18 @@ fn store_cells(queue: &WordQueue, pass: &mut WordPass, at: u64, cells: &[u32])
     }
 }
 
-// Whether it loads the cells that it stored.
+// Whether it loads the first of the cells that it stored.
 fn loads_back(queue: &WordQueue, pass: &mut WordPass, at: u64, cells: &[u32]) -> bool
     requires own { IsPassOf queue.now pass.old }
     requires opened { (view_of pass.old).phase ≡ phases.Open }
-    requires low { at ≤ 11 }
     requires eleven { length cells.now ≡ 11 }
     ensures own { IsPassOf queue.now pass.new }
     ensures view { view_of pass.new ≡ view_of pass.old }
 {
-    for k in 0..cells.len() {
-        if queue.load_cell(pass, Pos::new(at + k as u64)) != cells[k] {
-            return false;
-        }
-    }
-    true
+    queue.load_cell(pass, Pos::new(at)) == cells[0]
 }
 
-// It stores the cells of the entry, loads them, and shows them: whether it has loaded what it stored.
+// It stores the cells of the entry, loads the first of them, and shows them: whether it has loaded what it stored.
 fn write(queue: &WordQueue, pass: &mut WordPass, at: u64, xid: Xid) -> bool
     requires own { IsPassOf queue.now pass.old }
     requires pages { (shape_of queue.now).pages ≡ 2 }
@@ -192,7 +188,6 @@ fn commit(queue: &WordQueue, pass: &mut WordPass, xid: Xid, head: Pos)
     requires reach { length (known_of pass.old).seen < notes_of_seats (shape_of queue.now).seats }
     ensures own { IsPassOf queue.now pass.new }
     ensures free { (view_of pass.new).phase ≡ phases.Free }
-    ensures decided { (view_of pass.new).verdicts ≡ [] }
     ensures post { (view_of pass.new).post ≡ (view_of pass.old).post }
 {
     queue.set_status(pass, xid, Fate::Committed, 1);
@@ -202,32 +197,31 @@ fn commit(queue: &WordQueue, pass: &mut WordPass, xid: Xid, head: Pos)
     queue.drop_lock(pass);
 }
 
-// The holder publishes the notification, and gives the lock up: whether it has loaded what it stored.
-pub(crate) fn publish_locked(
+// Waits for the lock.
+fn wait_for_lock<R: Wait>(rt: &R, queue: &WordQueue, pass: &mut WordPass)
+    requires own { IsPassOf queue.now pass.old }
+    requires free { (view_of pass.old).phase ≡ phases.Free }
+    requires settled { is_settled (view_of pass.old).post.listen ≡ true }
+    ensures own { IsPassOf queue.now pass.new }
+    ensures held { (view_of pass.new).phase ≡ phases.Held }
+    ensures post { (view_of pass.new).post ≡ (view_of pass.old).post }
+{
+    'tries: for _ in rt.forever() {
+        if queue.try_lock(pass).is_ok() {
+            break;
+        }
+        thread::yield_now();
+    }
+}
+
+// It waits for the lock, draws a number, stores the cells of an entry, loads the first, and commits: what it is told then, if it has
+// loaded what it stored.
+pub(super) fn publish<R: Wait>(
+    rt: &R,
     queue: &WordQueue,
     pass: &mut WordPass,
     notes: &[Note; 1],
-) -> Option<bool>
-    requires own { IsPassOf queue.now pass.old }
-    requires pages { (shape_of queue.now).pages ≡ 2 }
-    requires format { (shape_of queue.now).format ≡ One }
-    requires seats { length (shape_of queue.now).seats ≡ 2 }
-    requires dbs { map (λ seat. seat.db) (shape_of queue.now).seats ≡ 1 ∷ 1 ∷ [] }
-    requires held { (view_of pass.old).phase ≡ phases.Held }
-    requires notes { notes.now ≡ virtual_note ∷ [] }
-    ensures own { IsPassOf queue.now pass.new }
-    ensures free { IfSome result (λ _. (view_of pass.new).phase ≡ phases.Free) }
-    ensures decided { IfSome result (λ _. (view_of pass.new).verdicts ≡ []) }
-    ensures post { IfSome result (λ _. (view_of pass.new).post ≡ (view_of pass.old).post) }
-{
-    let (at, xid) = begin(queue, pass, notes)?;
-    let same = write(queue, pass, at, xid);
-    commit(queue, pass, xid, Pos::new(at + 11));
-    Some(same)
-}
-
-// It takes the lock and publishes.
-pub(crate) fn publish(queue: &WordQueue, pass: &mut WordPass, notes: &[Note; 1]) -> Option<bool>
+) -> Option<u32>
     requires own { IsPassOf queue.now pass.old }
     requires pages { (shape_of queue.now).pages ≡ 2 }
     requires format { (shape_of queue.now).format ≡ One }
@@ -238,17 +232,17 @@ pub(crate) fn publish(queue: &WordQueue, pass: &mut WordPass, notes: &[Note; 1])
     requires notes { notes.now ≡ virtual_note ∷ [] }
     ensures own { IsPassOf queue.now pass.new }
     ensures free { IfSome result (λ _. (view_of pass.new).phase ≡ phases.Free) }
-    ensures decided { IfSome result (λ _. (view_of pass.new).verdicts ≡ []) }
     ensures post { IfSome result (λ _. (view_of pass.new).post ≡ (view_of pass.old).post) }
 {
-    if queue.try_lock(pass).is_err() {
-        return None;
-    }
-    publish_locked(queue, pass, notes)
+    wait_for_lock(rt, queue, pass);
+    let (at, xid) = begin(queue, pass, notes)?;
+    let same = write(queue, pass, at, xid);
+    commit(queue, pass, xid, Pos::new(at + 11));
+    if same { Some(pass.told().get()) } else { None }
 }
 
 // The cells from the first one on are those of the entry.
-pub(crate) fn shows_entry(queue: &WordQueue, pass: &mut WordPass) -> bool
+pub(super) fn shows_entry(queue: &WordQueue, pass: &mut WordPass) -> bool
     requires own { IsPassOf queue.now pass.old }
     requires shown { (view_of pass.old).walk.stage ≡ stages.Shown }
     ensures own { IsPassOf queue.now pass.new }
@@ -263,14 +257,14 @@ pub(crate) fn shows_entry(queue: &WordQueue, pass: &mut WordPass) -> bool
     true
 }
 
-// Asserts that a listener loads what the head shows, while the writer has not committed it.
-fn assert_shown(
-    rt: &impl Abort,
+// Whether each of two commits wakes the listener, which takes a wake once.
+fn wakes_each_time<R: Wait>(
+    rt: &R,
     queue: &WordQueue,
     first: &mut WordPass,
     second: &mut WordPass,
     notes: &[Note; 1],
-) -> Result<(), Fail>
+) -> bool
     requires first { IsPassOf queue.now first.old }
     requires first_fresh { IsFresh first.old }
     requires second { IsPassOf queue.now second.old }
@@ -282,94 +276,36 @@ fn assert_shown(
     requires dbs { map (λ seat. seat.db) (shape_of queue.now).seats ≡ 1 ∷ 1 ∷ [] }
     requires notes { notes.now ≡ virtual_note ∷ [] }
 {
-    assert_eq!(rt; queue.begin_walk(second).get(), 3);
-    if queue.try_lock(first).is_err() {
-        return Err(Fail::from("no lock"));
+    let Some(4) = publish(rt, queue, first, notes) else {
+        return false;
+    };
+    if !queue.take_wake(second) || queue.take_wake(second) {
+        return false;
     }
-    let Some((at, xid)) = begin(queue, first, notes) else {
-        return Err(Fail::from("no number"));
+    let Some(5) = publish(rt, queue, first, notes) else {
+        return false;
     };
-    assert_eq!(rt; (at, xid.get()), (0, 3));
-    let Some(by) = holder(queue, second) else {
-        return Err(Fail::from("no holder"));
-    };
-    assert_eq!(rt; by.get(), 1);
-    assert!(rt; write(queue, first, at, xid));
-    assert_eq!(rt; queue.show_head(second).get(), 11);
-    assert!(rt; shows_entry(queue, second));
-    commit(queue, first, xid, Pos::new(at + 11));
-    assert_eq!(rt; first.told().get(), 4);
-    Ok(())
+    queue.take_wake(second)
 }
 
 // The same over a queue of its own.
-fn assert_shown_in_a_queue(rt: &impl Abort, alloc: Global, notes: &[Note; 1]) -> Result<(), Fail>
+fn wakes_in_a_queue<R: Wait>(rt: &R, alloc: Global, notes: &[Note; 1]) -> Result<bool, AllocError>
     requires { notes.now ≡ virtual_note ∷ [] }
 {
     let (queue, mut first, mut second) = open_two(alloc)?;
     join(&queue, &mut second);
-    let done = assert_shown(rt, &queue, &mut first, &mut second, notes);
+    let wakes = wakes_each_time(rt, &queue, &mut first, &mut second, notes);
     drop(first);
     drop(second);
     drop(queue);
-    done
+    Ok(wakes)
 }
 
 #[test]
-fn a_listener_reads_what_the_head_shows(rt: HostRuntime) -> Result<(), Fail> {
+fn a_wake_is_taken_and_set_again(rt: HostRuntime) -> Result<(), AllocError> {
     let notes = [virtual_note(rt.alloc())?];
-    let done = assert_shown_in_a_queue(&rt, rt.alloc(), &notes);
+    let wakes = wakes_in_a_queue(&rt, rt.alloc(), &notes);
     drop(notes);
-    done
-}
-
-// Asserts that each commit wakes the listener, which takes the wake once.
-fn assert_woken(
-    rt: &impl Abort,
-    queue: &WordQueue,
-    first: &mut WordPass,
-    second: &mut WordPass,
-    notes: &[Note; 1],
-) -> Result<(), Fail>
-    requires first { IsPassOf queue.now first.old }
-    requires first_fresh { IsFresh first.old }
-    requires second { IsPassOf queue.now second.old }
-    requires second_free { (view_of second.old).phase ≡ phases.Free }
-    requires listens { (view_of second.old).post.listen ≡ listens.Registered }
-    requires pages { (shape_of queue.now).pages ≡ 2 }
-    requires format { (shape_of queue.now).format ≡ One }
-    requires seats { length (shape_of queue.now).seats ≡ 2 }
-    requires dbs { map (λ seat. seat.db) (shape_of queue.now).seats ≡ 1 ∷ 1 ∷ [] }
-    requires notes { notes.now ≡ virtual_note ∷ [] }
-{
-    let Some(true) = publish(queue, first, notes) else {
-        return Err(Fail::from("not published"));
-    };
-    assert!(rt; queue.take_wake(second));
-    assert!(rt; !queue.take_wake(second));
-    assert_eq!(rt; publish(queue, first, notes), Some(true));
-    assert!(rt; queue.take_wake(second));
-    assert_eq!(rt; first.told().get(), 5);
+    assert!(rt; wakes == Ok(true));
     Ok(())
-}
-
-// The same over a queue of its own.
-fn assert_woken_in_a_queue(rt: &impl Abort, alloc: Global, notes: &[Note; 1]) -> Result<(), Fail>
-    requires { notes.now ≡ virtual_note ∷ [] }
-{
-    let (queue, mut first, mut second) = open_two(alloc)?;
-    join(&queue, &mut second);
-    let done = assert_woken(rt, &queue, &mut first, &mut second, notes);
-    drop(first);
-    drop(second);
-    drop(queue);
-    done
-}
-
-#[test]
-fn a_wake_is_taken_and_set_again(rt: HostRuntime) -> Result<(), Fail> {
-    let notes = [virtual_note(rt.alloc())?];
-    let done = assert_woken_in_a_queue(&rt, rt.alloc(), &notes);
-    drop(notes);
-    done
 }

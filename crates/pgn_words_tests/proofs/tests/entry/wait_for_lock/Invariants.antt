@@ -1,6 +1,6 @@
 use Rattle.std.proofs.Common.{◌≡◌}
 use Rattle.pgn_words.specs.Passes.{IsPassOf, view_of}
-use Rattle.pgn_words_tests.proofs.tests.threads.wait_for_lock.Given as goal
+use Rattle.pgn_words_tests.proofs.tests.entry.wait_for_lock.Given as goal
 
 abbrev pub invariant-tries : goal.invariant-tries
 invariant-tries g l =
