@@ -1,2 +1,2 @@
--- three seats
+-- two seats
 pub mod SeatLaws

@@ -1,4 +1,4 @@
-//! Tests of what comes in frames, through the door of `pgn_frames`: conversations cut by the reads and into frames in any way.
+//! Tests of what comes in frames, through the door of `pgn_frames`: inputs with what comes of them, and a source that fails.
 #![tactic(auto)]
 
 #[cfg(test)]

@@ -1,6 +1,6 @@
 use Rattle.std.proofs.Common.{◌≡◌, true}
 use Rattle.pgn_outlet.specs.Passes.{IsPassOf, knows}
-use Rattle.pgn_frames_tests.proofs.tests.taken.Given as goal
+use Rattle.pgn_frames_tests.proofs.tests.put_asks.Given as goal
 
 -- the taker goes on
 abbrev pub invariant-loop : goal.invariant-loop
