@@ -41,6 +41,22 @@ fn setup_of_two(alloc: Global) -> Result<Setup, AllocError>
     Ok(Setup::new(2, 0, seats, Format::One))
 }
 
+// Takes the last pass and the one before it out of the passes of a queue.
+fn take_two(queue: &WordQueue, passes: &mut Vec<WordPass>) -> Option<(WordPass, WordPass)>
+    requires own { All (IsPassOf queue.now) passes.old.items }
+    requires fresh { All IsFresh passes.old.items }
+    ensures own { IfSome result (λ two. IsPassOf queue.now two.0 × IsPassOf queue.now two.1) }
+    ensures first { IfSome result (λ two. IsFresh two.0) }
+    ensures second { IfSome result (λ two. IsFresh two.1) }
+{
+    let second = passes.pop()?;
+    let Some(first) = passes.pop() else {
+        drop(second);
+        return None;
+    };
+    Some((first, second))
+}
+
 // A queue of two pages for two sessions of database 1, each of which may send two notifications.
 fn open_two(alloc: Global) -> Result<(WordQueue, WordPass, WordPass), AllocError>
     ensures own { IfOk result (λ opened. IsPassOf opened.0 opened.1 × IsPassOf opened.0 opened.2) }
@@ -52,19 +68,15 @@ fn open_two(alloc: Global) -> Result<(WordQueue, WordPass, WordPass), AllocError
     ensures second { IfOk result (λ opened. IsFresh opened.2) }
 {
     let setup = setup_of_two(alloc)?;
-    let (queue, mut passes) = WordQueue::open(alloc, &setup)?;
-    let Some(second) = passes.pop() else {
-        drop(passes);
-        drop(queue);
-        return Err(AllocError);
-    };
-    let Some(first) = passes.pop() else {
-        drop(second);
-        drop(passes);
-        drop(queue);
-        return Err(AllocError);
-    };
+    let opened = WordQueue::open(alloc, &setup);
+    drop(setup);
+    let (queue, mut passes) = opened?;
+    let two = take_two(&queue, &mut passes);
     drop(passes);
+    let Some((first, second)) = two else {
+        drop(queue);
+        return Err(AllocError);
+    };
     Ok((queue, first, second))
 }
 
