@@ -1,5 +1,4 @@
-use super::probe::{Rung, assert_ends};
-use std::test::Fail;
+use super::probe::{RUNG, seen_over};
 
 // So much patience is an hour.
 const HOUR: u64 = 3_600_000_000;
@@ -15,8 +14,16 @@ NOTIFY c
 
 // Each session whom no bell wakes dozes for ever. Session b sends once session a dozes, and raises the flag once a has read.
 #[test]
-fn a_listener_that_awaits_is_rung(rt: HostRuntime) -> Result<(), Fail> {
-    assert_ends::<Rung<10_000_000>, HostRuntime>(&rt, rt.alloc(), AWAITS, HOUR, &[4])
+fn a_listener_that_awaits_is_rung(rt: HostRuntime) {
+    let seen = seen_over::<RUNG, 10_000_000, HostRuntime>(
+        &rt,
+        rt.alloc(),
+        AWAITS,
+        HOUR,
+        false,
+        &[4],
+    );
+    assert!(rt; seen.ended && !seen.is_spent);
 }
 
 const WAITS_FOR_THE_OTHER: &str = "\
@@ -29,6 +36,14 @@ NOTIFY c
 
 // Likewise where session a has come to its end.
 #[test]
-fn a_listener_at_its_end_is_rung(rt: HostRuntime) -> Result<(), Fail> {
-    assert_ends::<Rung<10_000_000>, HostRuntime>(&rt, rt.alloc(), WAITS_FOR_THE_OTHER, HOUR, &[])
+fn a_listener_at_its_end_is_rung(rt: HostRuntime) {
+    let seen = seen_over::<RUNG, 10_000_000, HostRuntime>(
+        &rt,
+        rt.alloc(),
+        WAITS_FOR_THE_OTHER,
+        HOUR,
+        false,
+        &[],
+    );
+    assert!(rt; seen.ended && !seen.is_spent);
 }

@@ -1,36 +1,99 @@
-use super::probe::{Gate, Probe, Watch, assert_ends, awaited_over, seen_over};
-use super::{assert_shows, shown_over};
-use pgn_base::{PATIENCE_DEFAULT, Seed, Sink, Source};
-use pgn_drill::drill_text;
+ghost use Rattle.pgn_language.specs.Inputs.{IsSound};
+
+use super::probe::{GATE, Probe, WATCH, seen_over};
+use super::scenario_of;
+use pgn_base::{Format, PAGES_DEFAULT, PATIENCE_DEFAULT, Seed, Sink, Source};
 use pgn_hub::Hub;
+use pgn_language::Scenario;
 use pgn_memory::{MemSink, MemSource};
-use pgn_run::{Print, converse};
-use std::alloc::{AllocError, Global};
-use std::process::Abort;
+use pgn_run::{Means, Print, RunSettings, Status, converse, run_scenario, run_scenario_live};
+use std::alloc::Global;
 use std::sync::Wait;
 use std::test::Fail;
 use std::thread::Threads;
 use std::time::Clock;
 
-const TWO_WRITERS: &str = "\
-\\session a 1
-NOTIFY c
-\\session b 1
-NOTIFY c
-";
-
-#[test]
-fn sessions_run_side_by_side(rt: HostRuntime) -> Result<(), Fail> {
-    assert_ends::<Gate<10_000_000>, HostRuntime>(
-        &rt,
-        rt.alloc(),
-        TWO_WRITERS,
-        PATIENCE_DEFAULT,
-        &[],
-    )
+// How a run of this scenario ends, over a hub of this type and any sink, where this is printed of it: or else a live run.
+fn status_over<H: Hub + Sync + Drop, K: Sink + Send, R: Threads + Wait + Clock + Sync>(
+    rt: &R,
+    alloc: Global,
+    scenario: Scenario,
+    print: Option<Print>,
+    sink: &mut K,
+) -> Status
+    requires { IsSound scenario }
+{
+    let means = Means {
+        rt,
+        alloc,
+        hashes: Seed::fixed(),
+    };
+    let settings = RunSettings {
+        pages: PAGES_DEFAULT,
+        patience: PATIENCE_DEFAULT,
+        format: Format::One,
+    };
+    match print {
+        Some(print) => run_scenario::<H, K, R>(&means, scenario, settings, print, sink),
+        None => {
+            let status = run_scenario_live::<H, K, R>(&means, &scenario, settings, sink);
+            drop(scenario);
+            status
+        }
+    }
 }
 
-const TWO_LISTENERS: &str = "\
+/// The program's status where a run is done, and where it finds no memory.
+const DONE: u8 = 0;
+
+const NO_MEMORY: u8 = 6;
+
+// The program's status behind a run of this input over a gate of so many turns, if it is a scenario.
+pub(super) fn status_of<const TURNS: u32, K: Sink + Send, R: Threads + Wait + Clock + Sync>(
+    rt: &R,
+    alloc: Global,
+    input: &str,
+    print: Option<Print>,
+    sink: &mut K,
+) -> Option<u8> {
+    let scenario = scenario_of(alloc, input)?;
+    let status = status_over::<Probe<GATE, TURNS>, K, R>(rt, alloc, scenario, print, sink);
+    Some(status.code())
+}
+
+// Whether such a run is done, over a gate of which no turn is to be spent.
+pub(super) fn is_done<R: Threads + Wait + Clock + Sync>(
+    rt: &R,
+    alloc: Global,
+    input: &str,
+    print: Option<Print>,
+) -> bool {
+    let Ok(mut sink) = MemSink::new(alloc, 1 << 12, Vec::new(alloc), 1 << 12) else {
+        return false;
+    };
+    let status = status_of::<10_000_000, MemSink, R>(rt, alloc, input, print, &mut sink);
+    drop(sink);
+    status == Some(DONE)
+}
+
+// Whether such a run finds no memory over a gate that has no turn, and has written this by then.
+pub(super) fn finds_no_memory<R: Threads + Wait + Clock + Sync>(
+    rt: &R,
+    alloc: Global,
+    input: &str,
+    print: Option<Print>,
+    text: &str,
+) -> bool {
+    let Ok(mut sink) = MemSink::new(alloc, 1 << 12, Vec::new(alloc), 1 << 12) else {
+        return false;
+    };
+    let status = status_of::<0, MemSink, R>(rt, alloc, input, print, &mut sink);
+    let is_text = sink.held() == text.as_bytes();
+    drop(sink);
+    is_text && status == Some(NO_MEMORY)
+}
+
+pub(super) const TWO_LISTENERS: &str = "\
 \\session a 1
 LISTEN c
 NOTIFY c
@@ -40,21 +103,11 @@ NOTIFY c
 ";
 
 #[test]
-fn a_run_takes_its_sessions_side_by_side(rt: HostRuntime) -> Result<(), Fail> {
-    let text = shown_over::<Probe<Gate<10_000_000>>, HostRuntime>(
-        &rt,
-        rt.alloc(),
-        TWO_LISTENERS,
-        PATIENCE_DEFAULT,
-        Print::Text,
-    )?;
-    let begins = text.as_str().starts_with("journal 2\n");
-    drop(text);
-    assert!(rt; begins);
-    Ok(())
+fn a_run_takes_its_sessions_side_by_side(rt: HostRuntime) {
+    assert!(rt; is_done(&rt, rt.alloc(), TWO_LISTENERS, Some(Print::Text)));
 }
 
-const SELF_NOTIFY: &str = "\
+pub(super) const SELF_NOTIFY: &str = "\
 \\session a 1
 LISTEN c
 NOTIFY c, 'x'
@@ -62,35 +115,15 @@ NOTIFY c, 'x'
 
 // A text that is made without the hub needs no memory of its reads.
 #[test]
-fn a_run_is_over_its_hub(rt: HostRuntime) -> Result<(), Fail> {
-    assert_shows::<Probe<Gate<0>>, HostRuntime>(
-        &rt,
-        rt.alloc(),
-        SELF_NOTIFY,
-        PATIENCE_DEFAULT,
-        Print::Text,
-        "no memory",
-    )
+fn a_run_is_over_its_hub(rt: HostRuntime) {
+    assert!(rt; finds_no_memory(&rt, rt.alloc(), SELF_NOTIFY, Some(Print::Text), ""));
 }
 
 // Nor does a summary that is reckoned without a run.
 #[test]
-fn a_drill_is_over_its_hub(rt: HostRuntime) -> Result<(), Fail> {
-    let input = drill_text(rt.alloc(), 0, 1, 1)?;
-    let done = assert_no_summary(&rt, rt.alloc(), &input);
-    drop(input);
-    done
-}
-
-// Asserts that the drill that this input is has no summary over a gate.
-fn assert_no_summary<R: Threads + Wait + Clock + Sync + Abort>(
-    rt: &R,
-    alloc: Global,
-    input: &[u8],
-) -> Result<(), Fail> {
+fn a_drill_is_over_its_hub(rt: HostRuntime) {
     let print = Print::Summary { seed: 0, notes: 1 };
-    let input = str::from_utf8(input)?;
-    assert_shows::<Probe<Gate<0>>, R>(rt, alloc, input, PATIENCE_DEFAULT, print, "no memory")
+    assert!(rt; finds_no_memory(&rt, rt.alloc(), SELF_NOTIFY, Some(print), ""));
 }
 
 // A client asks `LISTEN c` and `NOTIFY c, 'x'`, and terminates.
@@ -109,34 +142,29 @@ fn is_served<H: Hub + Drop, R: Wait, S: Source, K: Sink>(
     converse::<H::Pass, H, R, S, K>(rt, alloc, Seed::fixed(), source, sink).is_ok()
 }
 
-// Whether it is, over a gate, written to this sink.
-fn is_served_over_a_gate<R: Wait>(
-    rt: &R,
-    alloc: Global,
-    sink: &mut MemSink,
-) -> Result<bool, AllocError> {
-    let talk = Vec::from_slice(alloc, TALK)?;
+// Whether it is told its first answer alone, over a gate that has no turn.
+fn is_told_the_first<R: Wait>(rt: &R, alloc: Global, sink: &mut MemSink) -> bool {
+    let Ok(talk) = Vec::from_slice(alloc, TALK) else {
+        return false;
+    };
     let mut source = MemSource::new(talk, Vec::new(alloc), 100);
-    let served = is_served::<Probe<Gate<0>>, R, MemSource, MemSink>(rt, alloc, &mut source, sink);
+    let served = is_served::<Probe<GATE, 0>, R, MemSource, MemSink>(rt, alloc, &mut source, sink);
     drop(source);
-    Ok(served)
+    !served && sink.held() == FIRST_ANSWER
 }
 
 // The read behind the second query finds no memory, so that nothing of its answer is written.
 #[test]
 fn a_conversation_is_over_its_hub(rt: HostRuntime) -> Result<(), Fail> {
-    let alloc = rt.alloc();
-    let mut sink = MemSink::new(alloc, 100, Vec::new(alloc), 100)?;
-    let served = is_served_over_a_gate(&rt, alloc, &mut sink);
-    let is_first_answer = sink.held() == FIRST_ANSWER;
+    let mut sink = MemSink::new(rt.alloc(), 100, Vec::new(rt.alloc()), 100)?;
+    let told = is_told_the_first(&rt, rt.alloc(), &mut sink);
     drop(sink);
-    assert!(rt; !served?);
-    assert!(rt; is_first_answer);
+    assert!(rt; told);
     Ok(())
 }
 
 // The first transaction spends the turns, so that the read of session a after its LISTEN finds no memory: it does not send again, and it
-// raises its second flag never. Session b, which would await this for an hour, is refused too. Of the two it alone has awaits.
+// raises its second flag never. Session b, which would await this for an hour, is refused too.
 const ONE_IS_REFUSED: &str = "\
 \\session a 1
 NOTIFY d
@@ -151,32 +179,10 @@ NOTIFY d
 ";
 
 #[test]
-fn where_a_session_is_refused_memory_the_others_end(rt: HostRuntime) -> Result<(), Fail> {
-    let (seen, awaits) = awaited_over::<Gate<0>, HostRuntime>(
-        &rt,
-        rt.alloc(),
-        ONE_IS_REFUSED,
-        3_600_000_000,
-    )?;
-    let is_found = awaits.is_empty() || awaits.as_slice() == [4].as_slice();
-    drop(awaits);
-    assert!(rt; is_found);
-    assert!(rt; !seen.ended);
-    assert!(rt; seen.begun == 1);
-    Ok(())
-}
-
-// Nothing is written then, of the others neither.
-#[test]
-fn where_a_session_is_refused_memory_nothing_is_written(rt: HostRuntime) -> Result<(), Fail> {
-    assert_shows::<Probe<Gate<0>>, HostRuntime>(
-        &rt,
-        rt.alloc(),
-        ONE_IS_REFUSED,
-        1000,
-        Print::Text,
-        "no memory",
-    )
+fn where_a_session_is_refused_memory_the_others_end(rt: HostRuntime) {
+    let hour = 3_600_000_000;
+    let seen = seen_over::<GATE, 0, HostRuntime>(&rt, rt.alloc(), ONE_IS_REFUSED, hour, false, &[]);
+    assert!(rt; !seen.ended && seen.begun == 1);
 }
 
 const AWAITS_ITSELF: &str = "\
@@ -189,11 +195,9 @@ LISTEN c
 // A listener reads while it waits too: once after LISTEN, after each of the ten looks of the await, after the signal, and as the
 // script's end begins.
 #[test]
-fn a_session_that_waits_looks_whether_it_was_woken(rt: HostRuntime) -> Result<(), Fail> {
-    let seen = seen_over::<Gate<0>, HostRuntime>(&rt, rt.alloc(), AWAITS_ITSELF, 10)?;
-    assert!(rt; seen.ended);
-    assert!(rt; seen.wake_looks == 13);
-    Ok(())
+fn a_session_that_waits_looks_whether_it_was_woken(rt: HostRuntime) {
+    let seen = seen_over::<GATE, 0, HostRuntime>(&rt, rt.alloc(), AWAITS_ITSELF, 10, false, &[0]);
+    assert!(rt; seen.ended && seen.wake_looks == 13);
 }
 
 const LISTENS_AND_UNLISTENS: &str = "\
@@ -211,9 +215,14 @@ UNLISTEN d
 
 // A session tells its channels where its transaction had actions and it listens afterwards, and at no other line: after the first three.
 #[test]
-fn a_session_tells_its_channels_where_it_has_acted(rt: HostRuntime) -> Result<(), Fail> {
-    let seen = seen_over::<Watch<0>, HostRuntime>(&rt, rt.alloc(), LISTENS_AND_UNLISTENS, 10)?;
-    assert!(rt; seen.ended);
-    assert!(rt; seen.interests == 3);
-    Ok(())
+fn a_session_tells_its_channels_where_it_has_acted(rt: HostRuntime) {
+    let seen = seen_over::<WATCH, 0, HostRuntime>(
+        &rt,
+        rt.alloc(),
+        LISTENS_AND_UNLISTENS,
+        10,
+        false,
+        &[],
+    );
+    assert!(rt; seen.ended && seen.interests == 3);
 }

@@ -1,17 +1,17 @@
 ghost use Rattle.std.specs.Prelude.{◌≡◌, ◌≤◌, map, length, All};
 ghost use Rattle.std.specs.List.{range_with_len};
+ghost use Rattle.pgn_session.specs.Runs.{IsReady};
 
-use super::ran;
-use super::turns::awaits_of;
+use super::opened;
 use pgn_base::{Delivery, Enlisted, Full, ListenSet, Note, Usage, Xid};
 use pgn_hub::{Hub, PassView, Roll, Setup};
+use pgn_model::Item;
+use pgn_session::Session;
+use pgn_threads::{run_in_turns, run_sessions};
 use pgn_wordhub::WordHub;
 use std::alloc::{AllocError, Global};
-use std::marker::PhantomData;
-use std::process::Abort;
 use std::sync::atomic::{AtomicU64, Ordering};
 use std::sync::{Arc, Wait};
-use std::test::Fail;
 use std::thread;
 use std::thread::Threads;
 use std::time::{Clock, Duration};
@@ -19,7 +19,7 @@ use std::time::{Clock, Duration};
 // What has come to pass over a hub: how many transactions have begun, how often sessions have looked whether they were woken, have told
 // their channels, have slept, have dozed and have read, and how often somebody waited for others in vain.
 #[derive(Drop)]
-pub(super) struct Counts {
+struct Counts {
     begun: AtomicU64,
     wake_looks: AtomicU64,
     interests: AtomicU64,
@@ -60,103 +60,50 @@ impl Counts {
     }
 }
 
-// When the calls of a hub go on.
-pub(super) trait Pace {
-    // Before the transaction that is the next after so many.
-    fn begins(counts: &Counts, before: u64);
+/// The first transaction waits until a second one has begun. Once the turns are spent reads find no memory. So it tells sessions that run
+/// side by side from those that one thread takes, in whatever order, and a run of its sessions from a text that was made without it.
+pub(super) const GATE: u32 = 0;
 
-    // Whether a read finds memory.
-    fn finds_memory(counts: &Counts) -> bool;
+/// Transactions wait until sessions have slept as often as transactions were begun, and the flag of the second name in the script is not
+/// raised until a session has read.
+pub(super) const WATCH: u32 = 1;
 
-    // Before a flag is raised.
-    fn raises(counts: &Counts, flag: u32);
+/// The first transaction waits until a session dozes, and the flag of the first name in the script is not raised until sessions have read
+/// twice. Nobody wakes whom no bell wakes.
+pub(super) const RUNG: u32 = 2;
 
-    // How long a doze is at most, for which so long was asked.
-    fn dozes(time: Duration) -> Duration;
-}
-
-// The first transaction waits, at most so many turns, until a second one has begun. Once the turns are spent reads find no memory. So it
-// tells sessions that run side by side from those that one thread takes, in whatever order, and a run of its sessions from a text that
-// was made without it.
+// A word hub that counts what sessions ask of it, at a pace, which is one of those: who waits gives way so many times at most.
 #[derive(Drop)]
-pub(super) struct Gate<const TURNS: u32> {}
-
-impl<const TURNS: u32> Pace for Gate<TURNS> {
-    fn begins(counts: &Counts, _before: u64) {
-        counts.wait_for(&counts.begun, 2, TURNS);
-    }
-
-    fn finds_memory(counts: &Counts) -> bool {
-        !counts.is_spent()
-    }
-
-    fn raises(_counts: &Counts, _flag: u32) {}
-
-    fn dozes(time: Duration) -> Duration {
-        time
-    }
-}
-
-// Transactions wait, at most so many turns, until sessions have slept as often as transactions were begun, and the flag of the second name
-// in the script is not raised until a session has read.
-#[derive(Drop)]
-pub(super) struct Watch<const TURNS: u32> {}
-
-impl<const TURNS: u32> Pace for Watch<TURNS> {
-    fn begins(counts: &Counts, before: u64) {
-        counts.wait_for(&counts.rests, before.saturating_add(1), TURNS);
-    }
-
-    fn finds_memory(_counts: &Counts) -> bool {
-        true
-    }
-
-    fn raises(counts: &Counts, flag: u32) {
-        if flag == 1 {
-            counts.wait_for(&counts.reads, 1, TURNS);
-        }
-    }
-
-    fn dozes(time: Duration) -> Duration {
-        time
-    }
-}
-
-// The first transaction waits, at most so many turns, until a session dozes, and the flag of the first name in the script is not raised until
-// sessions have read twice. Nobody wakes whom no bell wakes.
-#[derive(Drop)]
-pub(super) struct Rung<const TURNS: u32> {}
-
-impl<const TURNS: u32> Pace for Rung<TURNS> {
-    fn begins(counts: &Counts, _before: u64) {
-        counts.wait_for(&counts.dozes, 1, TURNS);
-    }
-
-    fn finds_memory(_counts: &Counts) -> bool {
-        true
-    }
-
-    fn raises(counts: &Counts, flag: u32) {
-        if flag == 0 {
-            counts.wait_for(&counts.reads, 2, TURNS);
-        }
-    }
-
-    fn dozes(_time: Duration) -> Duration {
-        Duration::MAX
-    }
-}
-
-// A word hub that counts what sessions ask of it, at a pace of its own.
-#[derive(Drop)]
-pub(super) struct Probe<P: Pace> {
+pub(super) struct Probe<const PACE: u32, const TURNS: u32> {
     hub: WordHub,
     counts: Arc<Counts, Global>,
-    pace: PhantomData<P>,
 }
 
-impl<P: Pace> Probe<P> {
-    pub(super) fn seen(&self, ended: bool) -> Seen {
+impl<const PACE: u32, const TURNS: u32> Probe<PACE, TURNS> {
+    // Before a transaction.
+    fn begins(&self) {
+        let before = self.counts.begun.fetch_add(1, Ordering::SeqCst);
+        if PACE == GATE {
+            self.counts.wait_for(&self.counts.begun, 2, TURNS);
+        } else if PACE == WATCH {
+            let sleeps = before.saturating_add(1);
+            self.counts.wait_for(&self.counts.rests, sleeps, TURNS);
+        } else {
+            self.counts.wait_for(&self.counts.dozes, 1, TURNS);
+        }
+    }
+
+    // Before a flag is raised.
+    fn raises(&self, flag: u32) {
+        if PACE == WATCH && flag == 1 {
+            self.counts.wait_for(&self.counts.reads, 1, TURNS);
+        }
+        if PACE == RUNG && flag == 0 {
+            self.counts.wait_for(&self.counts.reads, 2, TURNS);
+        }
+    }
+
+    fn seen(&self, ended: bool) -> Seen {
         Seen {
             ended,
             is_spent: self.counts.is_spent(),
@@ -168,8 +115,8 @@ impl<P: Pace> Probe<P> {
     }
 }
 
-// What sessions came to over a probe: whether memory sufficed, whether somebody waited for others in vain, how many transactions have begun,
-// and how often they slept, looked whether they were woken and told their channels.
+// What sessions came to over a probe: whether all came to their ends, and their awaits to what was wanted; whether somebody waited for
+// others in vain, how many transactions have begun, and how often they slept, looked whether they were woken and told their channels.
 #[derive(Clone, Copy)]
 pub(super) struct Seen {
     pub(super) ended: bool,
@@ -180,63 +127,101 @@ pub(super) struct Seen {
     pub(super) interests: u64,
 }
 
-// Runs the sessions of an input at this pace, with so much patience: what they came to, and what their awaits did. The probe and the
-// sessions are dropped here, once for all tests.
-pub(super) fn awaited_over<P: Pace + Sync + Drop, R: Threads + Wait + Clock + Sync>(
+const NOTHING: Seen = Seen {
+    ended: false,
+    is_spent: false,
+    begun: 0,
+    rests: 0,
+    wake_looks: 0,
+    interests: 0,
+};
+
+// Runs the sessions of an input over a probe, with so much patience, each on a thread of its own or in turns on one: what they came to,
+// where their awaits are to come to these numbers.
+pub(super) fn seen_over<const PACE: u32, const TURNS: u32, R: Threads + Wait + Clock + Sync>(
     rt: &R,
     alloc: Global,
     input: &str,
     patience: u64,
-) -> Result<(Seen, Vec<u64>), Fail>
+    in_turns: bool,
+    wants: &[u32],
+) -> Seen
     requires { 1 ≤ patience }
 {
-    let (probe, sessions, ended) = ran::<Probe<P>, R>(rt, alloc, input, patience)?;
-    let awaits = awaits_of(alloc, &sessions);
-    drop(sessions);
+    let Ok((probe, ended)) = ran_over::<Probe<PACE, TURNS>, R>(
+        rt, alloc, input, patience, in_turns, wants,
+    ) else {
+        return NOTHING;
+    };
     let seen = probe.seen(ended);
     drop(probe);
-    Ok((seen, awaits?))
+    seen
 }
 
-// The same without the awaits.
-pub(super) fn seen_over<P: Pace + Sync + Drop, R: Threads + Wait + Clock + Sync>(
+// The same over a hub of this type: the hub, and whether memory sufficed and their awaits came to these numbers.
+fn ran_over<H: Hub + Sync + Drop, R: Threads + Wait + Clock + Sync>(
     rt: &R,
     alloc: Global,
     input: &str,
     patience: u64,
-) -> Result<Seen, Fail>
+    in_turns: bool,
+    wants: &[u32],
+) -> Result<(H, bool), AllocError>
     requires { 1 ≤ patience }
 {
-    let (seen, awaits) = awaited_over::<P, R>(rt, alloc, input, patience)?;
-    drop(awaits);
-    Ok(seen)
+    let (hub, mut sessions) = opened::<H>(alloc, input, patience)?;
+    let ended = run(rt, alloc, &hub, sessions.as_mut_slice(), in_turns);
+    let awaited = have_awaited(&sessions, wants);
+    drop(sessions);
+    Ok((hub, ended && awaited))
 }
 
-// Asserts that all came to their ends, that nobody waited for others in vain, and what their awaits did.
-pub(super) fn assert_seen(rt: &impl Abort, seen: Seen, awaits: Vec<u64>, want: &[u64]) {
-    let are_these = awaits.as_slice() == want;
-    drop(awaits);
-    assert!(rt; are_these);
-    assert!(rt; seen.ended);
-    assert!(rt; !seen.is_spent);
-}
-
-// Asserts this of the sessions of an input at this pace, with so much patience.
-pub(super) fn assert_ends<P: Pace + Sync + Drop, R: Threads + Wait + Clock + Sync + Abort>(
+// Runs sessions: whether memory sufficed.
+fn run<P: PassView + Send + Drop, H: Hub<Pass = P> + Sync, R: Threads + Wait + Clock + Sync>(
     rt: &R,
     alloc: Global,
-    input: &str,
-    patience: u64,
-    want: &[u64],
-) -> Result<(), Fail>
-    requires { 1 ≤ patience }
+    hub: &H,
+    sessions: &mut [Session<P>],
+    in_turns: bool,
+) -> bool
+    requires { All (IsReady (H.is_pass hub.now) (H.shape hub.now) P.known) sessions.old }
 {
-    let (seen, awaits) = awaited_over::<P, R>(rt, alloc, input, patience)?;
-    assert_seen(rt, seen, awaits, want);
-    Ok(())
+    if in_turns {
+        run_in_turns(rt, alloc, hub, sessions).is_ok()
+    } else {
+        run_sessions(rt, alloc, hub, sessions).is_ok()
+    }
 }
 
-impl<P: Pace> Hub for Probe<P> {
+// What an await came to: the number that was found, or 0; none for other items.
+fn awaited(item: &Item) -> Option<u32> {
+    match item {
+        Item::Found { value } => Some(value.get()),
+        Item::TimedOut { .. } => Some(0),
+        _ => None,
+    }
+}
+
+// Whether the awaits of sessions came to these numbers, one session after the other.
+fn have_awaited<P: PassView + Send + Drop>(sessions: &[Session<P>], wants: &[u32]) -> bool {
+    let mut rest = wants;
+    for session in sessions {
+        for item in &session.items {
+            if let Some(number) = awaited(item) {
+                let Some((want, others)) = rest.split_first() else {
+                    return false;
+                };
+                if *want != number {
+                    return false;
+                }
+                rest = others;
+            }
+        }
+    }
+    rest.is_empty()
+}
+
+impl<const PACE: u32, const TURNS: u32> Hub for Probe<PACE, TURNS> {
     ghost use Rattle.pgn_hub.specs.Gathered.{Gathered};
     ghost use Rattle.pgn_wordhub.specs.Passes.{IsHubPass, hub_shape};
 
@@ -258,14 +243,7 @@ impl<P: Pace> Hub for Probe<P> {
             return Err(AllocError);
         };
         match WordHub::open(alloc, setup) {
-            Ok((hub, passes)) => {
-                let probe = Probe {
-                    hub,
-                    counts,
-                    pace: PhantomData,
-                };
-                Ok((probe, passes))
-            }
+            Ok((hub, passes)) => Ok((Probe { hub, counts }, passes)),
             Err(error) => {
                 drop(counts);
                 Err(error)
@@ -274,8 +252,7 @@ impl<P: Pace> Hub for Probe<P> {
     }
 
     fn publish<R: Wait>(&self, rt: &R, pass: &mut Self::Pass, notes: &[Note]) -> Result<Xid, Full> {
-        let before = self.counts.begun.fetch_add(1, Ordering::SeqCst);
-        P::begins(&self.counts, before);
+        self.begins();
         self.hub.publish(rt, pass, notes)
     }
 
@@ -296,7 +273,7 @@ impl<P: Pace> Hub for Probe<P> {
         out: &mut Vec<Delivery>,
     ) -> Result<Xid, AllocError> {
         self.counts.reads.fetch_add(1, Ordering::SeqCst);
-        if !P::finds_memory(&self.counts) {
+        if PACE == GATE && self.counts.is_spent() {
             return Err(AllocError);
         }
         self.hub.scan(alloc, pass, set, out)
@@ -312,7 +289,7 @@ impl<P: Pace> Hub for Probe<P> {
     }
 
     fn raise(&self, pass: &mut Self::Pass, flag: u32) -> Xid {
-        P::raises(&self.counts, flag);
+        self.raises(flag);
         self.hub.raise(pass, flag)
     }
 
@@ -336,7 +313,8 @@ impl<P: Pace> Hub for Probe<P> {
     fn doze<R: Wait>(&self, rt: &R, seat: u32, time: Duration) {
         self.counts.rests.fetch_add(1, Ordering::SeqCst);
         self.counts.dozes.fetch_add(1, Ordering::SeqCst);
-        self.hub.doze(rt, seat, P::dozes(time));
+        let time = if PACE == RUNG { Duration::MAX } else { time };
+        self.hub.doze(rt, seat, time);
     }
 
     fn call_off(&self) {

@@ -1,79 +1,20 @@
-use super::opened;
-use super::probe::{Pace, Probe, Seen, Watch};
-use pgn_base::PAGES_DEFAULT;
-use pgn_hub::PassView;
-use pgn_model::Item;
-use pgn_session::Session;
-use pgn_threads::run_in_turns;
-use std::alloc::{AllocError, Global};
-use std::process::Abort;
+ghost use Rattle.std.specs.Prelude.{◌≤◌};
+
+use super::probe::{WATCH, seen_over};
+use std::alloc::Global;
 use std::sync::Wait;
-use std::test::Fail;
-use std::time::Clock;
+use std::thread::Threads;
+use std::time::{Clock, Duration, Instant};
 
-// Puts out what an await came to: the number that was found, or 0 and how often it looked in vain; nothing for other items.
-fn push_await(awaits: &mut Vec<u64>, item: &Item) -> Result<(), AllocError> {
-    match item {
-        Item::Found { value } => push(awaits, u64::from(value.get())),
-        Item::TimedOut { looks } => {
-            push(awaits, 0)?;
-            push(awaits, *looks)
-        }
-        _ => Ok(()),
-    }
-}
-
-fn push(awaits: &mut Vec<u64>, number: u64) -> Result<(), AllocError> {
-    awaits.push(number)?;
-    Ok(())
-}
-
-fn push_awaits<P: PassView + Send + Drop>(
-    awaits: &mut Vec<u64>,
-    session: &Session<P>,
-) -> Result<(), AllocError> {
-    for item in &session.items {
-        push_await(awaits, item)?;
-    }
-    Ok(())
-}
-
-fn push_all<P: PassView + Send + Drop>(
-    awaits: &mut Vec<u64>,
-    sessions: &[Session<P>],
-) -> Result<(), AllocError> {
-    for session in sessions {
-        push_awaits(awaits, session)?;
-    }
-    Ok(())
-}
-
-// What the awaits of sessions came to.
-pub(super) fn awaits_of<P: PassView + Send + Drop>(
-    alloc: Global,
-    sessions: &[Session<P>],
-) -> Result<Vec<u64>, AllocError> {
-    let mut awaits = Vec::new(alloc);
-    if push_all(&mut awaits, sessions).is_err() {
-        drop(awaits);
-        return Err(AllocError);
-    }
-    Ok(awaits)
-}
-
-// Runs the sessions of an input, which take turns on one thread: what they came to, and what their awaits did.
-fn awaited_in_turns<P: Pace + Drop, R: Wait + Clock>(
+// Whether sessions that take turns on one thread come to their ends, and their awaits to these numbers, and no session sleeps.
+fn take_turns<R: Threads + Wait + Clock + Sync>(
     rt: &R,
     alloc: Global,
     input: &str,
-) -> Result<(Seen, Vec<u64>), Fail> {
-    let (hub, mut sessions) = opened::<Probe<P>>(alloc, input, PAGES_DEFAULT, 1_000_000)?;
-    let ended = run_in_turns(rt, alloc, &hub, sessions.as_mut_slice());
-    let seen = hub.seen(ended.is_ok());
-    drop(hub);
-    let awaits = awaits_of(alloc, &sessions);
-    drop(sessions);
-    Ok((seen, awaits?))
+    wants: &[u32],
+) -> bool {
+    let seen = seen_over::<WATCH, 0, R>(rt, alloc, input, 1_000_000, true, wants);
+    seen.ended && seen.rests == 0
 }
 
 // Each session waits for the other one.
@@ -98,59 +39,9 @@ NOTIFY c, 'from b'
 \\signal b2
 ";
 
-// Asserts that the awaits of this input, whose sessions take turns on one thread, come to these numbers, and that no session sleeps.
-fn assert_awaited<R: Wait + Clock + Abort>(
-    rt: &R,
-    alloc: Global,
-    input: &str,
-    want: &[u64],
-) -> Result<(), Fail> {
-    let (seen, awaits) = awaited_in_turns::<Watch<0>, R>(rt, alloc, input)?;
-    let are_these = awaits.as_slice() == want;
-    drop(awaits);
-    assert!(rt; are_these);
-    assert!(rt; seen.ended);
-    assert!(rt; seen.rests == 0);
-    Ok(())
-}
-
 #[test]
-fn sessions_with_crossing_flags_take_turns(rt: HostRuntime) -> Result<(), Fail> {
-    assert_awaited(&rt, rt.alloc(), CROSSING_FLAGS, &[3, 5, 4])
-}
-
-// Sessions that send, each to itself.
-const PLAIN_SESSIONS: &str = "\
-\\session s1 1
-LISTEN c1
-NOTIFY c1
-\\session s2 1
-LISTEN c2
-NOTIFY c2
-\\session s3 1
-LISTEN c3
-NOTIFY c3
-\\session s4 1
-LISTEN c4
-NOTIFY c4
-\\session s5 1
-LISTEN c5
-NOTIFY c5
-\\session s6 1
-LISTEN c6
-NOTIFY c6
-\\session s7 1
-LISTEN c7
-NOTIFY c7
-\\session s8 1
-LISTEN c8
-NOTIFY c8
-";
-
-// None waits for the end of one that has not begun.
-#[test]
-fn plain_sessions_take_turns(rt: HostRuntime) -> Result<(), Fail> {
-    assert_awaited(&rt, rt.alloc(), PLAIN_SESSIONS, &[])
+fn sessions_with_crossing_flags_take_turns(rt: HostRuntime) {
+    assert!(rt; take_turns(&rt, rt.alloc(), CROSSING_FLAGS, &[3, 5, 4]));
 }
 
 // Sessions of which each raises its own flag and awaits that of the next one, and the last one that of the first.
@@ -206,6 +97,41 @@ const RING: &str = "\
 ";
 
 #[test]
-fn a_ring_of_flags_takes_turns(rt: HostRuntime) -> Result<(), Fail> {
-    assert_awaited(&rt, rt.alloc(), RING, &[3; 16])
+fn a_ring_of_flags_takes_turns(rt: HostRuntime) {
+    assert!(rt; take_turns(&rt, rt.alloc(), RING, &[3; 16]));
+}
+
+// Two sessions that wait for a flag in vain, of which the first listens, and waits twice.
+const RAISED_LATE: &str = "\
+\\session a 1
+LISTEN c
+\\await f
+\\await f
+\\signal f
+\\session b 1
+\\await f
+";
+
+// Whether each await gives up where so much patience is spent, and two of them take at least the time of one.
+fn spend_their_patience<R: Threads + Wait + Clock + Sync>(
+    rt: &R,
+    alloc: Global,
+    patience: u64,
+) -> bool
+    requires { 1 ≤ patience }
+{
+    let Ok(begun) = Instant::now(rt) else {
+        return false;
+    };
+    let seen = seen_over::<WATCH, 0, R>(rt, alloc, RAISED_LATE, patience, true, &[0, 0, 0]);
+    match begun.elapsed(rt) {
+        Ok(spent) => seen.ended && spent >= Duration::from_micros(patience),
+        Err(_) => false,
+    }
+}
+
+// They sleep together: the time would be less if a sleep were counted for longer than it was, as twice for two sessions.
+#[test]
+fn sessions_that_take_turns_count_no_more_than_they_sleep(rt: HostRuntime) {
+    assert!(rt; spend_their_patience(&rt, rt.alloc(), 50_000));
 }
