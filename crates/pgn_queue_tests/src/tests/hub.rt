@@ -1,24 +1,15 @@
-//! A hub of two pages for two sessions, and what a session does with its calls.
-ghost use Rattle.std.specs.Prelude.{◌≡◌, ◌≤◌, ◌<◌, [], ◌∷◌, length, IfOk, IfSome};
+//! A hub for two sessions, and what a session does with its calls.
+ghost use Rattle.std.specs.Prelude.{◌≡◌, ◌≤◌, ◌<◌, [], ◌∷◌, length, IfOk};
+ghost use Rattle.pgn_wordhub.specs.Passes.{IsHubPass, hub_shape};
 
-use pgn_base::{
-    Action, Actions, DbOid, Delivery, Enlisted, Format, ListenSet, Name, Note, Payload, Seed,
-    SessionNo, Xid,
-};
+use pgn_base::{Action, Actions, DbOid, Format, ListenSet, Name, Note, Payload, Seed, Xid};
 use pgn_hub::{Hub, PassView, SeatSetup, Setup};
 use pgn_wordhub::WordHub;
 use pgn_words::WordPass;
 use std::alloc::{AllocError, Global};
-use std::str;
 use std::sync::Wait;
-use std::test::Fail;
 
 mod bells;
-mod budget;
-mod calls;
-mod formats;
-mod full;
-mod interest;
 mod script;
 mod sharing;
 mod tail;
@@ -29,17 +20,8 @@ const LARGEST: usize = 7999;
 /// How many notifications each session of a test may send.
 const NOTES: u32 = 4000;
 
-// A notification on the channel `c` whose payload has so many letters, if memory suffices.
-fn note(alloc: Global, letters: usize) -> Option<Note>
-    ensures { IfSome result (λ note. length note.payload ≡ letters) }
-{
-    note_on(alloc, "c", letters)
-}
-
-// The same on another channel.
-fn note_on(alloc: Global, channel: &str, letters: usize) -> Option<Note>
-    ensures { IfSome result (λ note. length note.payload ≡ letters) }
-{
+// A notification on a channel whose payload has so many letters, if memory suffices.
+fn note_on(alloc: Global, channel: &str, letters: usize) -> Option<Note> {
     let payload = payload(alloc, letters)?;
     match Name::new(alloc, channel) {
         Ok(channel) => Some(Note { channel, payload }),
@@ -51,20 +33,11 @@ fn note_on(alloc: Global, channel: &str, letters: usize) -> Option<Note>
 }
 
 // A payload of so many letters.
-fn payload(alloc: Global, letters: usize) -> Option<Payload>
-    ensures { IfSome result (λ payload. length payload ≡ letters) }
-{
-    let text = vec![in alloc; b'x'; letters].ok()?;
-    let payload = payload_of(alloc, &text);
+fn payload(alloc: Global, letters: usize) -> Option<Payload> {
+    let text = "x".repeat(alloc, letters).ok()?;
+    let payload = Payload::new(alloc, text.as_str());
     drop(text);
-    payload
-}
-
-// A payload of this text.
-fn payload_of(alloc: Global, text: &[u8]) -> Option<Payload>
-    ensures { IfSome result (λ payload. length payload ≡ length text.now) }
-{
-    Payload::new(alloc, str::from_utf8(text).ok()?).ok()
+    payload.ok()
 }
 
 // That the channel `c` is listened to, if memory suffices.
@@ -111,7 +84,12 @@ fn seat(db: u32) -> SeatSetup
 }
 
 // What a hub of so many pages and two flags is opened for, with two sessions, of which the first is in database 1.
-fn setup_of_two(alloc: Global, format: Format, pages: u32, second_db: u32) -> Result<Setup, Fail>
+fn setup_of_two(
+    alloc: Global,
+    format: Format,
+    pages: u32,
+    second_db: u32,
+) -> Result<Setup, AllocError>
     requires some_pages { 2 ≤ pages }
     requires few_pages { pages ≤ 1024 }
     requires db { 0 < second_db }
@@ -142,7 +120,7 @@ fn open_pages<P: PassView + Send + Drop, H: Hub<Pass = P> + Drop>(
     format: Format,
     pages: u32,
     second_db: u32,
-) -> Result<(H, P, P), Fail>
+) -> Result<(H, P, P), AllocError>
     requires some_pages { 2 ≤ pages }
     requires few_pages { pages ≤ 1024 }
     requires db { 0 < second_db }
@@ -158,16 +136,21 @@ fn open_pages<P: PassView + Send + Drop, H: Hub<Pass = P> + Drop>(
 }
 
 // A hub of two pages for two sessions of one database.
-fn open_two<P: PassView + Send + Drop, H: Hub<Pass = P> + Drop>(
-    alloc: Global,
-    format: Format,
-) -> Result<(H, P, P), Fail>
-    ensures first { IfOk result (λ opened. H.is_pass opened.0 opened.1) }
-    ensures second { IfOk result (λ opened. H.is_pass opened.0 opened.2) }
-    ensures seats { IfOk result (λ opened. length (H.shape opened.0).seats ≡ 2) }
-    ensures flags { IfOk result (λ opened. (H.shape opened.0).flags ≡ 2) }
+fn open_two(alloc: Global) -> Result<(WordHub, WordPass, WordPass), AllocError>
+    ensures first { IfOk result (λ opened. IsHubPass opened.0 opened.1) }
+    ensures second { IfOk result (λ opened. IsHubPass opened.0 opened.2) }
+    ensures seats { IfOk result (λ opened. length (hub_shape opened.0).seats ≡ 2) }
+    ensures flags { IfOk result (λ opened. (hub_shape opened.0).flags ≡ 2) }
 {
-    open_pages(alloc, format, 2, 1)
+    open_pages::<WordPass, WordHub>(alloc, Format::One, 2, 1)
+}
+
+// A transaction's number, or 0.
+fn number_of(xid: Option<Xid>) -> u32 {
+    match xid {
+        Some(xid) => xid.get(),
+        None => 0,
+    }
 }
 
 // The number of the transaction that publishes one notification: none where the queue is full, or the session has sent all it may.
@@ -186,7 +169,7 @@ fn publish<P: PassView + Send + Drop, H: Hub<Pass = P>, R: Wait>(
     hub.publish(rt, pass, notes).ok()
 }
 
-// The same of a notification on a channel whose payload has so many letters, if memory suffices for it.
+// The same of a notification on a channel whose payload has so many letters: 0 for none.
 fn send<P: PassView + Send + Drop, H: Hub<Pass = P>, R: Wait>(
     rt: &R,
     alloc: Global,
@@ -194,36 +177,41 @@ fn send<P: PassView + Send + Drop, H: Hub<Pass = P>, R: Wait>(
     pass: &mut P,
     channel: &str,
     letters: usize,
-) -> Option<Xid>
+) -> u32
     requires { H.is_pass hub.now pass.old }
     ensures { H.is_pass hub.now pass.new }
 {
     match note_on(alloc, channel, letters) {
-        Some(note) => publish(rt, hub, pass, &[note]),
-        None => None,
+        Some(note) => number_of(publish(rt, hub, pass, &[note])),
+        None => 0,
     }
 }
 
-// A session that does not listen yet listens from here on.
-fn enlist<P: PassView + Send + Drop, H: Hub<Pass = P>>(hub: &H, pass: &mut P) -> Option<Enlisted>
+// Whether a session that does not listen yet has this base then, and receives from there on.
+fn enlists<P: PassView + Send + Drop, H: Hub<Pass = P>>(
+    hub: &H,
+    pass: &mut P,
+    base: u32,
+    point: u32,
+) -> bool
     requires { H.is_pass hub.now pass.old }
     ensures { H.is_pass hub.now pass.new }
 {
     if pass.mark().is_some() {
-        return None;
+        return false;
     }
-    Some(hub.enlist(pass))
+    let enlisted = hub.enlist(pass);
+    enlisted.base.get() == base && enlisted.point.get() == point
 }
 
-// Tells that a listener listens on these channels, and reads on: the new mark, if memory suffices, and what was received is put behind
-// `got`.
-fn read_on<P: PassView + Send + Drop, H: Hub<Pass = P>>(
+// A listener tells that it listens on these channels, and reads on: the new mark, and how many notifications were received, if memory
+// suffices.
+fn receive<P: PassView + Send + Drop, H: Hub<Pass = P>>(
     alloc: Global,
     hub: &H,
     pass: &mut P,
     set: &ListenSet,
-    got: &mut Vec<Delivery>,
-) -> Option<Xid>
+) -> Option<(u32, usize)>
     requires { H.is_pass hub.now pass.old }
     ensures { H.is_pass hub.now pass.new }
 {
@@ -231,107 +219,39 @@ fn read_on<P: PassView + Send + Drop, H: Hub<Pass = P>>(
         return None;
     }
     hub.interest(pass, set);
-    hub.scan(alloc, pass, set, got).ok()
-}
-
-// The same on the channel `c`.
-fn read<P: PassView + Send + Drop, H: Hub<Pass = P>>(
-    alloc: Global,
-    hub: &H,
-    pass: &mut P,
-    got: &mut Vec<Delivery>,
-) -> Option<Xid>
-    requires { H.is_pass hub.now pass.old }
-    ensures { H.is_pass hub.now pass.new }
-{
-    let set = set_of_c(alloc)?;
-    let to = read_on(alloc, hub, pass, &set, got);
-    drop(set);
-    to
-}
-
-// Reads on: the new mark, and how many notifications were received.
-fn receive<P: PassView + Send + Drop, H: Hub<Pass = P>>(
-    alloc: Global,
-    hub: &H,
-    pass: &mut P,
-) -> Option<(u32, usize)>
-    requires { H.is_pass hub.now pass.old }
-    ensures { H.is_pass hub.now pass.new }
-{
     let mut got = Vec::new(alloc);
-    let to = read(alloc, hub, pass, &mut got);
+    let to = hub.scan(alloc, pass, set, &mut got);
     let count = got.len();
     drop(got);
-    Some((to?.get(), count))
+    Some((to.ok()?.get(), count))
 }
 
-// Whether a listener is to read, if it is one.
-fn woken<P: PassView + Send + Drop, H: Hub<Pass = P>>(hub: &H, pass: &mut P) -> Option<bool>
+// Whether this comes of a read on the channel `c`.
+fn reads<P: PassView + Send + Drop, H: Hub<Pass = P>>(
+    alloc: Global,
+    hub: &H,
+    pass: &mut P,
+    mark: u32,
+    count: usize,
+) -> bool
+    requires { H.is_pass hub.now pass.old }
+    ensures { H.is_pass hub.now pass.new }
+{
+    let Some(set) = set_of_c(alloc) else {
+        return false;
+    };
+    let received = receive(alloc, hub, pass, &set);
+    drop(set);
+    received == Some((mark, count))
+}
+
+// Whether a listener is to read, or is not to, as this says.
+fn is_woken<P: PassView + Send + Drop, H: Hub<Pass = P>>(hub: &H, pass: &mut P, want: bool) -> bool
     requires { H.is_pass hub.now pass.old }
     ensures { H.is_pass hub.now pass.new }
 {
     if pass.mark().is_none() {
-        return None;
+        return false;
     }
-    Some(hub.woken(pass))
-}
-
-// Two passes, in order.
-fn pair<P: Drop>(alloc: Global, first: P, second: P) -> Result<Vec<P>, AllocError>
-    ensures { IfOk result (λ passes. passes.items ≡ first ∷ second ∷ []) }
-{
-    let mut passes = Vec::new(alloc);
-    let Ok(()) = passes.reserve(2) else {
-        drop(first);
-        drop(second);
-        drop(passes);
-        return Err(AllocError);
-    };
-    passes.push(first).unwrap();
-    passes.push(second).unwrap();
-    Ok(passes)
-}
-
-// Ends the hub of two sessions, in order: how many transactions its journal has.
-fn count_journal<P: PassView + Send + Drop, H: Hub<Pass = P> + Drop>(
-    alloc: Global,
-    hub: H,
-    first: P,
-    second: P,
-) -> Result<u32, Fail>
-    requires first { H.is_pass hub first }
-    requires second { H.is_pass hub second }
-    requires seats { length (H.shape hub).seats ≡ 2 }
-{
-    if first.session().get() == 1 && second.session().get() == 2 {
-        gather(alloc, hub, first, second)
-    } else {
-        drop(first);
-        drop(second);
-        drop(hub);
-        Err(Fail::from("not in order"))
-    }
-}
-
-// The same of those that are known to be in order.
-fn gather<P: PassView + Send + Drop, H: Hub<Pass = P> + Drop>(
-    alloc: Global,
-    hub: H,
-    first: P,
-    second: P,
-) -> Result<u32, Fail>
-    requires first { H.is_pass hub first }
-    requires second { H.is_pass hub second }
-    requires first_session { (P.known first).session ≡ 1 }
-    requires second_session { (P.known second).session ≡ 2 }
-    requires seats { length (H.shape hub).seats ≡ 2 }
-{
-    match pair(alloc, first, second) {
-        Ok(passes) => Ok(hub.gather(passes).count),
-        Err(_) => {
-            drop(hub);
-            Err(Fail::from("no memory"))
-        }
-    }
+    hub.woken(pass) == want
 }

@@ -1,244 +1,161 @@
 //! Bells: who has armed its own is rung by what it waits for, and no ring is lost.
-ghost use Rattle.std.specs.Prelude.{◌≡◌, ◌<◌, length, IfOk};
+ghost use Rattle.std.specs.Prelude.{◌≡◌, ◌<◌, length};
 ghost use Rattle.pgn_wordhub.specs.Passes.{hub_shape};
 
+use super::script::{Act, Line, SECOND, play, plays};
 use super::*;
 use std::sync::atomic::{AtomicU64, Ordering};
+use std::test::Fail;
 use std::thread::{Threads, join};
 use std::time::{Clock, Duration, Instant};
 
 /// How often each of two threads rings.
-const RINGS: u64 = 10_000;
-
-/// The seat of the second session.
-const SECOND: u32 = 1;
+const TURNS: u64 = 20_000;
 
 /// How long a doze is that nobody ends, in milliseconds.
 const SHORT: u64 = 30;
 
-// Dozes until a count is at least this, which the other thread counts up before it rings.
-fn doze_until<R: Wait>(rt: &R, hub: &WordHub, seat: u32, count: &AtomicU64, least: u64)
+// Dozes until the word is at least this, which the other thread counts up before it rings.
+fn doze_until<R: Wait>(rt: &R, hub: &WordHub, seat: u32, word: &AtomicU64, least: u64)
     requires { seat < length (hub_shape hub.now).seats }
 {
     for _ in rt.forever() {
         hub.arm(seat);
-        if count.load(Ordering::SeqCst) >= least {
+        if word.load(Ordering::SeqCst) >= least {
             return;
         }
         hub.doze(rt, seat, Duration::MAX);
     }
 }
 
-// Counts up, and rings the other thread.
-fn count_and_ring(hub: &WordHub, other: u32, count: &AtomicU64, now: u64)
-    requires { other < length (hub_shape hub.now).seats }
-{
-    count.store(now, Ordering::SeqCst);
-    hub.ring(other);
-}
-
-// Rings the other thread again and again, and dozes until it has rung as often.
-fn ring_and_doze<R: Wait>(
-    rt: &R,
-    hub: &WordHub,
-    seat: u32,
-    other: u32,
-    mine: &AtomicU64,
-    others: &AtomicU64,
-)
+// Each of two threads waits for the other's number, counts on, and rings the other.
+fn take_turns<R: Wait>(rt: &R, hub: &WordHub, seat: u32, other: u32, word: &AtomicU64)
     requires seat { seat < length (hub_shape hub.now).seats }
     requires other { other < length (hub_shape hub.now).seats }
 {
-    for now in 0..RINGS {
-        count_and_ring(hub, other, mine, now + 1);
-        doze_until(rt, hub, seat, others, now + 1);
+    for turn in 0..TURNS {
+        let number = 2 * turn + u64::from(seat);
+        doze_until(rt, hub, seat, word, number);
+        word.store(number + 1, Ordering::SeqCst);
+        hub.ring(other);
     }
 }
 
-// Dozes again and again until the other thread has rung once more, and rings it.
-fn doze_and_ring<R: Wait>(
-    rt: &R,
-    hub: &WordHub,
-    seat: u32,
-    other: u32,
-    mine: &AtomicU64,
-    others: &AtomicU64,
-)
-    requires seat { seat < length (hub_shape hub.now).seats }
-    requires other { other < length (hub_shape hub.now).seats }
-{
-    for now in 0..RINGS {
-        doze_until(rt, hub, seat, others, now + 1);
-        count_and_ring(hub, other, mine, now + 1);
-    }
-}
-
-// Two threads that each ring first.
-fn both_ring_first<R: Threads + Wait + Sync>(rt: &R, hub: &WordHub)
+// The two of them.
+fn both_take_turns<R: Threads + Wait + Sync>(rt: &R, hub: &WordHub)
     requires { length (hub_shape hub.now).seats ≡ 2 }
 {
-    let (one, two) = (AtomicU64::new(0), AtomicU64::new(0));
+    let word = AtomicU64::new(0);
     join(
         rt,
-        || ring_and_doze(rt, hub, 0, 1, &one, &two),
-        || ring_and_doze(rt, hub, 1, 0, &two, &one),
-    );
-}
-
-// Two threads, of which one dozes first.
-fn one_dozes_first<R: Threads + Wait + Sync>(rt: &R, hub: &WordHub)
-    requires { length (hub_shape hub.now).seats ≡ 2 }
-{
-    let (one, two) = (AtomicU64::new(0), AtomicU64::new(0));
-    join(
-        rt,
-        || ring_and_doze(rt, hub, 0, 1, &one, &two),
-        || doze_and_ring(rt, hub, 1, 0, &two, &one),
+        || take_turns(rt, hub, 0, SECOND, &word),
+        || take_turns(rt, hub, SECOND, 0, &word),
     );
 }
 
 // A ring that is lost leaves a thread asleep for ever.
 #[test]
 fn no_ring_is_lost(rt: HostRuntime) -> Result<(), Fail> {
-    let (hub, first, second) = open_two::<WordPass, WordHub>(rt.alloc(), Format::One)?;
+    let (hub, first, second) = open_two(rt.alloc())?;
     drop(first);
     drop(second);
-    both_ring_first(&rt, &hub);
-    one_dozes_first(&rt, &hub);
+    both_take_turns(&rt, &hub);
     drop(hub);
     Ok(())
 }
 
-// Two sessions, of which the second listens on `c`, has read all, and has armed its bell.
-fn open_armed<P: PassView + Send + Drop, H: Hub<Pass = P> + Drop>(
-    alloc: Global,
-) -> Result<(H, P, P), Fail>
-    ensures first { IfOk result (λ opened. H.is_pass opened.0 opened.1) }
-    ensures second { IfOk result (λ opened. H.is_pass opened.0 opened.2) }
-    ensures seats { IfOk result (λ opened. length (H.shape opened.0).seats ≡ 2) }
-    ensures flags { IfOk result (λ opened. (H.shape opened.0).flags ≡ 2) }
-{
-    let (hub, first, mut second) = open_two::<P, H>(alloc, Format::One)?;
-    enlist(&hub, &mut second);
-    receive(alloc, &hub, &mut second);
-    woken(&hub, &mut second);
-    hub.arm(SECOND);
-    Ok((hub, first, second))
-}
-
-// The first session sends, and the second one dozes until its bell rings: whether that was sent, and the second is to read.
-fn rings<P: PassView + Send + Drop, H: Hub<Pass = P> + Drop, R: Wait>(
-    rt: &R,
-    alloc: Global,
-) -> Result<bool, Fail> {
-    let (hub, mut first, mut second) = open_armed::<P, H>(alloc)?;
-    let sent = send(rt, alloc, &hub, &mut first, "c", 1);
-    hub.doze(rt, SECOND, Duration::MAX);
-    let woken = woken(&hub, &mut second);
-    drop(first);
-    drop(second);
-    drop(hub);
-    Ok(sent.is_some() && woken == Some(true))
-}
+// The second session listens, has read all, and arms its bell. The first sends, and the second dozes until its bell rings.
+const A_COMMIT: &[Line] = &[
+    (2, Act::Enlists(3, 3)),
+    (2, Act::Reads(3, 0)),
+    (2, Act::Woken(false)),
+    (2, Act::Arms),
+    (1, Act::Sends("c", 1, 3)),
+    (2, Act::Dozes),
+    (2, Act::Woken(true)),
+];
 
 #[test]
-fn a_commit_rings_who_listens(rt: HostRuntime) -> Result<(), Fail> {
-    assert!(rt; rings::<WordPass, WordHub, HostRuntime>(&rt, rt.alloc())?);
-    Ok(())
+fn a_commit_rings_who_listens(rt: HostRuntime) {
+    assert!(rt; plays(&rt, rt.alloc(), Format::One, 2, 1, A_COMMIT));
 }
 
-// Whether a doze of the second session lasts as long as it may, if the clock can be read.
-fn dozes_to_the_end<P: PassView + Send + Drop, H: Hub<Pass = P>, R: Wait + Clock>(
-    rt: &R,
-    hub: &H,
-) -> Option<bool>
-    requires { length (H.shape hub.now).seats ≡ 2 }
-{
-    let short = Duration::from_millis(SHORT);
-    let begun = Instant::now(rt).ok()?;
-    hub.doze(rt, SECOND, short);
-    let slept = begun.elapsed(rt).ok()?;
-    Some(slept >= short)
-}
-
-// The first session sends on a channel that the second one, which dozes then, does not listen on: whether that was sent, and the doze
-// lasts.
-fn rings_nobody<P: PassView + Send + Drop, H: Hub<Pass = P> + Drop, R: Wait + Clock>(
-    rt: &R,
-    alloc: Global,
-) -> Result<bool, Fail> {
-    let (hub, mut first, second) = open_armed::<P, H>(alloc)?;
-    let sent = send(rt, alloc, &hub, &mut first, "d", 1);
-    let dozed = dozes_to_the_end::<P, H, R>(rt, &hub);
-    drop(first);
-    drop(second);
-    drop(hub);
-    Ok(sent.is_some() && dozed == Some(true))
-}
+const A_RAISE: &[Line] = &[
+    (2, Act::Enlists(3, 3)),
+    (2, Act::Reads(3, 0)),
+    (2, Act::Woken(false)),
+    (2, Act::Arms),
+    (1, Act::Raises(3)),
+    (2, Act::Dozes),
+];
 
 #[test]
-fn a_commit_on_another_channel_rings_nobody(rt: HostRuntime) -> Result<(), Fail> {
-    assert!(rt; rings_nobody::<WordPass, WordHub, HostRuntime>(&rt, rt.alloc())?);
-    Ok(())
+fn a_raise_rings_who_waits(rt: HostRuntime) {
+    assert!(rt; plays(&rt, rt.alloc(), Format::One, 2, 1, A_RAISE));
 }
 
-// The first session raises a flag, and the second one dozes until that rings it.
-fn raise_and_doze<P: PassView + Send + Drop, H: Hub<Pass = P> + Drop, R: Wait>(
-    rt: &R,
-    alloc: Global,
-) -> Result<(), Fail> {
-    let (hub, mut first, second) = open_armed::<P, H>(alloc)?;
-    hub.raise(&mut first, 0);
-    hub.doze(rt, SECOND, Duration::MAX);
-    drop(first);
-    drop(second);
-    drop(hub);
-    Ok(())
-}
+const CALLED_OFF: &[Line] = &[
+    (2, Act::Enlists(3, 3)),
+    (2, Act::Arms),
+    (1, Act::CallsOff),
+    (2, Act::Dozes),
+];
 
 #[test]
-fn a_raise_rings_who_waits(rt: HostRuntime) -> Result<(), Fail> {
-    raise_and_doze::<WordPass, WordHub, HostRuntime>(&rt, rt.alloc())
+fn a_run_that_is_called_off_rings_who_waits(rt: HostRuntime) {
+    assert!(rt; plays(&rt, rt.alloc(), Format::One, 2, 1, CALLED_OFF));
 }
 
-// The run is called off, and the second session dozes until that rings it: whether the run is called off then.
-fn call_off_and_doze<P: PassView + Send + Drop, H: Hub<Pass = P> + Drop, R: Wait>(
-    rt: &R,
-    alloc: Global,
-) -> Result<bool, Fail> {
-    let (hub, first, second) = open_armed::<P, H>(alloc)?;
-    hub.call_off();
-    hub.doze(rt, SECOND, Duration::MAX);
-    let off = hub.is_called_off();
-    drop(first);
-    drop(second);
-    drop(hub);
-    Ok(off)
-}
-
-#[test]
-fn a_run_that_is_called_off_rings_who_waits(rt: HostRuntime) -> Result<(), Fail> {
-    assert!(rt; call_off_and_doze::<WordPass, WordHub, HostRuntime>(&rt, rt.alloc())?);
-    Ok(())
-}
-
-// The second session is rung, and dozes twice.
-fn ring_and_doze_twice<P: PassView + Send + Drop, H: Hub<Pass = P> + Drop, R: Wait>(
-    rt: &R,
-    alloc: Global,
-) -> Result<(), Fail> {
-    let (hub, first, second) = open_armed::<P, H>(alloc)?;
-    hub.ring(SECOND);
-    hub.doze(rt, SECOND, Duration::MAX);
-    hub.doze(rt, SECOND, Duration::MAX);
-    drop(first);
-    drop(second);
-    drop(hub);
-    Ok(())
-}
+const DOZES_TWICE: &[Line] = &[
+    (2, Act::Arms),
+    (1, Act::Rings),
+    (2, Act::Dozes),
+    (2, Act::Dozes),
+];
 
 // A bell that has rung is not armed, and a doze leaves it so.
 #[test]
-fn who_has_not_armed_does_not_doze(rt: HostRuntime) -> Result<(), Fail> {
-    ring_and_doze_twice::<WordPass, WordHub, HostRuntime>(&rt, rt.alloc())
+fn who_has_not_armed_does_not_doze(rt: HostRuntime) {
+    assert!(rt; plays(&rt, rt.alloc(), Format::One, 2, 1, DOZES_TWICE));
+}
+
+const SENT_ELSEWHERE: &[Line] = &[
+    (2, Act::Enlists(3, 3)),
+    (2, Act::Reads(3, 0)),
+    (2, Act::Woken(false)),
+    (2, Act::Arms),
+    (1, Act::Sends("d", 1, 3)),
+];
+
+// Whether a doze of the second session lasts as long as it may.
+fn dozes_to_the_end<H: Hub, R: Wait + Clock>(rt: &R, hub: &H) -> bool
+    requires { length (H.shape hub.now).seats ≡ 2 }
+{
+    let short = Duration::from_millis(SHORT);
+    let Ok(begun) = Instant::now(rt) else {
+        return false;
+    };
+    hub.doze(rt, SECOND, short);
+    match begun.elapsed(rt) {
+        Ok(slept) => slept >= short,
+        Err(_) => false,
+    }
+}
+
+// The same, once the first session has sent on a channel that the second one does not listen on.
+fn rings_nobody<R: Wait + Clock>(rt: &R, alloc: Global) -> bool {
+    let Ok((hub, mut first, mut second)) = open_two(alloc) else {
+        return false;
+    };
+    let sent = play(rt, alloc, &hub, &mut first, &mut second, SENT_ELSEWHERE);
+    drop(first);
+    drop(second);
+    let dozed = dozes_to_the_end(rt, &hub);
+    drop(hub);
+    sent && dozed
+}
+
+#[test]
+fn a_commit_on_another_channel_rings_nobody(rt: HostRuntime) {
+    assert!(rt; rings_nobody(&rt, rt.alloc()));
 }

@@ -1,151 +1,43 @@
 //! The tail advances: past a session that joins it does not, and without a full queue it does.
-ghost use Rattle.std.specs.Prelude.{◌≡◌, ◌≤◌};
+ghost use Rattle.std.specs.Prelude.{◌≡◌};
 ghost use Rattle.pgn_wordhub.specs.Passes.{IsHubPass, hub_shape};
 
-use super::script::play;
+use super::script::{Act, Line, play};
 use super::*;
-use std::process::Abort;
 use std::thread;
 use std::thread::Threads;
 
 /// How often a session advances the tail at most until it meets another one that joins.
 const ADVANCES: usize = 1_000_000;
 
-/// The oldest kept page before an advance and after it, and the session that joined.
-type Advance = (u64, u64, Option<SessionNo>);
-
-// What an advance does.
-fn advance<R: Wait>(rt: &R, hub: &WordHub, pass: &mut WordPass) -> Advance
-    requires { IsHubPass hub.now pass.old }
-    ensures { IsHubPass hub.now pass.new }
-{
-    let freed = hub.advance_tail(rt, pass);
-    (freed.from, freed.to, freed.joiner)
-}
-
-// Plays a script, lets the second session advance the tail, and plays another one: what the advance did.
-fn advance_between<R: Wait + Abort>(
-    rt: &R,
-    alloc: Global,
-    hub: &WordHub,
-    first: &mut WordPass,
-    second: &mut WordPass,
-    before: &str,
-    after: &str,
-) -> Result<Advance, Fail>
-    requires first { IsHubPass hub.now first.old }
-    requires second { IsHubPass hub.now second.old }
-    requires flags { (hub_shape hub.now).flags ≡ 2 }
-    ensures first { IsHubPass hub.now first.new }
-    ensures second { IsHubPass hub.now second.new }
-{
-    play(rt, alloc, hub, first, second, before)?;
-    let advanced = advance(rt, hub, second);
-    play(rt, alloc, hub, first, second, after)?;
-    Ok(advanced)
-}
-
-// The same over a hub of so many pages: what that did, and another one at the end, and how many transactions the journal has.
-fn advance_over<R: Wait + Abort>(
-    rt: &R,
-    alloc: Global,
-    pages: u32,
-    before: &str,
-    after: &str,
-) -> Result<(Advance, Advance, u32), Fail>
-    requires some_pages { 2 ≤ pages }
-    requires few_pages { pages ≤ 1024 }
-{
-    let (hub, mut first, mut second) = open_pages::<WordPass, WordHub>(
-        alloc,
-        Format::One,
-        pages,
-        1,
-    )?;
-    match advance_between(rt, alloc, &hub, &mut first, &mut second, before, after) {
-        Ok(advanced) => {
-            let last = advance(rt, &hub, &mut second);
-            let count = count_journal(alloc, hub, first, second)?;
-            Ok((advanced, last, count))
-        }
-        Err(fail) => {
-            drop(first);
-            drop(second);
-            drop(hub);
-            Err(fail)
-        }
-    }
-}
-
-// Asserts this of them.
-fn assert_advances<R: Wait + Abort>(
-    rt: &R,
-    alloc: Global,
-    pages: u32,
-    before: &str,
-    after: &str,
-    want: (Advance, Advance, u32),
-) -> Result<(), Fail>
-    requires some_pages { 2 ≤ pages }
-    requires few_pages { pages ≤ 1024 }
-{
-    let advanced = advance_over(rt, alloc, pages, before, after)?;
-    assert_eq!(rt; advanced, want);
-    Ok(())
-}
-
-const HOLDS_THE_TAIL: &str = "\
-1 enlists: 3 3
-2 sends c 7999: 3
-2 sends c 7999: 4";
-
-#[test]
-fn a_listener_holds_the_tail(rt: HostRuntime) -> Result<(), Fail> {
-    let want = ((0, 0, None), (0, 1, None), 2);
-    assert_advances(&rt, rt.alloc(), 2, HOLDS_THE_TAIL, "1 reads: 5 2", want)
-}
-
 // The listener reads after the fourth of five largest notifications.
-const FIVE_ARE_SENT: &str = "\
-1 enlists: 3 3
-2 sends c 7999: 3
-2 sends c 7999: 4
-2 sends c 7999: 5
-2 sends c 7999: 6
-1 reads: 7 4
-2 sends c 7999: 7";
+const FIVE_ARE_SENT: &[Line] = &[
+    (1, Act::Enlists(3, 3)),
+    (2, Act::Sends("c", LARGEST, 3)),
+    (2, Act::Sends("c", LARGEST, 4)),
+    (2, Act::Sends("c", LARGEST, 5)),
+    (2, Act::Sends("c", LARGEST, 6)),
+    (1, Act::Reads(7, 4)),
+    (2, Act::Sends("c", LARGEST, 7)),
+];
 
-#[test]
-fn the_tail_moves_without_a_full_queue(rt: HostRuntime) -> Result<(), Fail> {
-    let want = ((3, 3, None), (3, 3, None), 5);
-    assert_advances(&rt, rt.alloc(), 9, FIVE_ARE_SENT, "", want)
+// The oldest page that is kept behind them, of nine.
+fn oldest_behind_five<R: Wait>(rt: &R, alloc: Global) -> Option<u64> {
+    let Ok((hub, mut first, mut second)) = open_pages::<WordPass, WordHub>(alloc, Format::One, 9, 1)
+    else {
+        return None;
+    };
+    let sent = play(rt, alloc, &hub, &mut first, &mut second, FIVE_ARE_SENT);
+    let freed = hub.advance_tail(rt, &mut second);
+    drop(first);
+    drop(second);
+    drop(hub);
+    if sent { Some(freed.from) } else { None }
 }
 
-const LISTENS_AND_READS: &str = "\
-2 enlists: 3 3
-2 reads: 3 0
-2 sends c 1: 3
-2 woken: 1
-2 reads: 4 1";
-
-const SIGNALS_AND_LEAVES: &str = "\
-2 raises 1: 4
-2 looks 1: 4
-2 occupies: 0
-2 leaves:
-1 hears: 4";
-
 #[test]
-fn one_pass_through_every_call(rt: HostRuntime) -> Result<(), Fail> {
-    let want = ((0, 0, None), (0, 0, None), 1);
-    assert_advances(
-        &rt,
-        rt.alloc(),
-        2,
-        LISTENS_AND_READS,
-        SIGNALS_AND_LEAVES,
-        want,
-    )
+fn the_tail_moves_without_a_full_queue(rt: HostRuntime) {
+    assert!(rt; oldest_behind_five(&rt, rt.alloc()) == Some(3));
 }
 
 // A session joins and leaves: whether the flag 0 was raised.
@@ -184,26 +76,22 @@ fn join_on_words<R: Wait>(rt: &R, hub: &WordHub, pass: &mut WordPass)
     join_again(rt, hub, pass)
 }
 
-// What the first advance did that met a session which joined.
-fn meet_joiner<R: Wait>(rt: &R, hub: &WordHub, pass: &mut WordPass) -> Option<(u64, u64, SessionNo)>
+// The number of the session that an advance met first which joined, or 0.
+fn meet_joiner<R: Wait>(rt: &R, hub: &WordHub, pass: &mut WordPass) -> u32
     requires { IsHubPass hub.now pass.old }
     ensures { IsHubPass hub.now pass.new }
 {
     'advances: for _ in 0..ADVANCES {
-        if let (from, to, Some(joiner)) = advance(rt, hub, pass) {
-            return Some((from, to, joiner));
+        if let Some(joiner) = hub.advance_tail(rt, pass).joiner {
+            return joiner.get();
         }
         thread::yield_now();
     }
-    None
+    0
 }
 
 // The same; then it raises the flag.
-fn meet_and_raise<R: Wait>(
-    rt: &R,
-    hub: &WordHub,
-    pass: &mut WordPass,
-) -> Option<(u64, u64, SessionNo)>
+fn meet_and_raise<R: Wait>(rt: &R, hub: &WordHub, pass: &mut WordPass) -> u32
     requires own { IsHubPass hub.now pass.old }
     requires flags { (hub_shape hub.now).flags ≡ 2 }
 {
@@ -218,7 +106,7 @@ fn join_and_advance<R: Threads + Wait + Sync>(
     hub: &WordHub,
     mut joiner: WordPass,
     mut other: WordPass,
-) -> ((), Option<(u64, u64, SessionNo)>)
+) -> ((), u32)
     requires joiner { IsHubPass hub.now joiner }
     requires other { IsHubPass hub.now other }
     requires flags { (hub_shape hub.now).flags ≡ 2 }
@@ -230,22 +118,19 @@ fn join_and_advance<R: Threads + Wait + Sync>(
     )
 }
 
-// Whether an advance that met somebody stayed where it was, and whom it met.
-fn met_by(advance: Option<(u64, u64, SessionNo)>) -> Option<(bool, u32)> {
-    match advance {
-        Some((from, to, joiner)) => Some((from == to, joiner.get())),
-        None => None,
-    }
+// Which session an advance meets that joins, where two pages are full.
+fn met_at_full_pages<R: Threads + Wait + Sync>(rt: &R, alloc: Global) -> u32 {
+    let Ok((hub, first, mut second)) = open_two(alloc) else {
+        return 0;
+    };
+    send(rt, alloc, &hub, &mut second, "c", LARGEST);
+    send(rt, alloc, &hub, &mut second, "c", LARGEST);
+    let (_, met) = join_and_advance(rt, &hub, first, second);
+    drop(hub);
+    met
 }
 
 #[test]
-fn a_session_that_joins_is_named(rt: HostRuntime) -> Result<(), Fail> {
-    let alloc = rt.alloc();
-    let (hub, first, mut second) = open_two::<WordPass, WordHub>(alloc, Format::One)?;
-    send(&rt, alloc, &hub, &mut second, "c", LARGEST);
-    send(&rt, alloc, &hub, &mut second, "c", LARGEST);
-    let (_, met) = join_and_advance(&rt, &hub, first, second);
-    drop(hub);
-    assert!(rt; met_by(met) == Some((true, 1)));
-    Ok(())
+fn a_session_that_joins_is_named(rt: HostRuntime) {
+    assert!(rt; met_at_full_pages(&rt, rt.alloc()) == 1);
 }

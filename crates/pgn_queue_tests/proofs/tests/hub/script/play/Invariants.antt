@@ -1,5 +1,4 @@
 use Rattle.pgn_queue_tests.proofs.tests.hub.script.play.Given as goal
 
 abbrev pub invariant-lines : goal.invariant-lines
-invariant-lines g l =
-    (goal.iterator-lines g).can_next l.line-iterator × (goal.iterator-lines g).is_finite l.line-iterator × g.H.Hub.is_pass l.fn.hub l.first × g.H.Hub.is_pass l.fn.hub l.second
+invariant-lines g l = g.H.Hub.is_pass l.fn.hub l.first × g.H.Hub.is_pass l.fn.hub l.second
