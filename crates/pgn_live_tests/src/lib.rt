@@ -1,5 +1,5 @@
-//! What is tested of sessions that run live: that a line is written while they run, what stands written where the sink fails or memory is
-//! short, and that sessions which share a thread tell all the same. There is nothing here but tests.
+//! What is tested of lines that are written while sessions run: what stands written where the sink fails, and that a writer is woken.
+//! There is nothing here but tests.
 #![tactic(auto)]
 
 #[cfg(test)]
