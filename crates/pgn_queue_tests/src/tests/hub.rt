@@ -204,26 +204,26 @@ fn enlists<P: PassView + Send + Drop, H: Hub<Pass = P>>(
     enlisted.base.get() == base && enlisted.point.get() == point
 }
 
-// A listener tells that it listens on these channels, and reads on: the new mark, and how many notifications were received, if memory
-// suffices.
+// A listener tells that it listens on these channels, and reads on: the new mark, and how many notifications were received, or no mark
+// and none.
 fn receive<P: PassView + Send + Drop, H: Hub<Pass = P>>(
     alloc: Global,
     hub: &H,
     pass: &mut P,
     set: &ListenSet,
-) -> Option<(u32, usize)>
+) -> (u32, usize)
     requires { H.is_pass hub.now pass.old }
     ensures { H.is_pass hub.now pass.new }
 {
     if pass.mark().is_none() {
-        return None;
+        return (0, 0);
     }
     hub.interest(pass, set);
     let mut got = Vec::new(alloc);
     let to = hub.scan(alloc, pass, set, &mut got);
     let count = got.len();
     drop(got);
-    Some((to.ok()?.get(), count))
+    (number_of(to.ok()), count)
 }
 
 // Whether this comes of a read on the channel `c`.
@@ -242,7 +242,7 @@ fn reads<P: PassView + Send + Drop, H: Hub<Pass = P>>(
     };
     let received = receive(alloc, hub, pass, &set);
     drop(set);
-    received == Some((mark, count))
+    received == (mark, count)
 }
 
 // Whether a listener is to read, or is not to, as this says.

@@ -2,18 +2,15 @@
 ghost use Rattle.std.specs.Prelude.{◌≡◌, ◌<◌, length};
 ghost use Rattle.pgn_wordhub.specs.Passes.{hub_shape};
 
-use super::script::{Act, Line, SECOND, play, plays};
+use super::script::{Act, Line, SECOND, plays};
 use super::*;
 use std::sync::atomic::{AtomicU64, Ordering};
 use std::test::Fail;
 use std::thread::{Threads, join};
-use std::time::{Clock, Duration, Instant};
+use std::time::Duration;
 
 /// How often each of two threads rings.
 const TURNS: u64 = 20_000;
-
-/// How long a doze is that nobody ends, in milliseconds.
-const SHORT: u64 = 30;
 
 // Dozes until the word is at least this, which the other thread counts up before it rings.
 fn doze_until<R: Wait>(rt: &R, hub: &WordHub, seat: u32, word: &AtomicU64, least: u64)
@@ -119,43 +116,17 @@ fn who_has_not_armed_does_not_doze(rt: HostRuntime) {
     assert!(rt; plays(&rt, rt.alloc(), Format::One, 2, 1, DOZES_TWICE));
 }
 
+// The first session sends on a channel that the second one does not listen on.
 const SENT_ELSEWHERE: &[Line] = &[
     (2, Act::Enlists(3, 3)),
     (2, Act::Reads(3, 0)),
     (2, Act::Woken(false)),
     (2, Act::Arms),
     (1, Act::Sends("d", 1, 3)),
+    (2, Act::Sleeps(30)),
 ];
-
-// Whether a doze of the second session lasts as long as it may.
-fn dozes_to_the_end<H: Hub, R: Wait + Clock>(rt: &R, hub: &H) -> bool
-    requires { length (H.shape hub.now).seats ≡ 2 }
-{
-    let short = Duration::from_millis(SHORT);
-    let Ok(begun) = Instant::now(rt) else {
-        return false;
-    };
-    hub.doze(rt, SECOND, short);
-    match begun.elapsed(rt) {
-        Ok(slept) => slept >= short,
-        Err(_) => false,
-    }
-}
-
-// The same, once the first session has sent on a channel that the second one does not listen on.
-fn rings_nobody<R: Wait + Clock>(rt: &R, alloc: Global) -> bool {
-    let Ok((hub, mut first, mut second)) = open_two(alloc) else {
-        return false;
-    };
-    let sent = play(rt, alloc, &hub, &mut first, &mut second, SENT_ELSEWHERE);
-    drop(first);
-    drop(second);
-    let dozed = dozes_to_the_end(rt, &hub);
-    drop(hub);
-    sent && dozed
-}
 
 #[test]
 fn a_commit_on_another_channel_rings_nobody(rt: HostRuntime) {
-    assert!(rt; rings_nobody(&rt, rt.alloc()));
+    assert!(rt; plays(&rt, rt.alloc(), Format::One, 2, 1, SENT_ELSEWHERE));
 }

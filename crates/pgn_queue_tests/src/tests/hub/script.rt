@@ -2,7 +2,7 @@
 ghost use Rattle.std.specs.Prelude.{◌≡◌, ◌<◌, ◌≤◌, length};
 
 use super::*;
-use std::time::Duration;
+use std::time::{Clock, Duration, Instant};
 
 /// The seat of the second session, whose bell it is.
 pub(super) const SECOND: u32 = 1;
@@ -25,6 +25,8 @@ pub(super) enum Act {
     Arms,
     Rings,
     Dozes,
+    /// For so many milliseconds, since no bell rings.
+    Sleeps(u64),
     /// The run.
     CallsOff,
 }
@@ -47,8 +49,23 @@ fn rings<H: Hub, R: Wait>(rt: &R, hub: &H, act: &Act)
     }
 }
 
+// Whether a doze of the second session lasts so many milliseconds, which it may last.
+fn sleeps<H: Hub, R: Wait + Clock>(rt: &R, hub: &H, millis: u64) -> bool
+    requires { length (H.shape hub.now).seats ≡ 2 }
+{
+    let longest = Duration::from_millis(millis);
+    let Ok(begun) = Instant::now(rt) else {
+        return false;
+    };
+    hub.doze(rt, SECOND, longest);
+    match begun.elapsed(rt) {
+        Ok(slept) => slept >= longest,
+        Err(_) => false,
+    }
+}
+
 // Whether what a session does comes to what is said.
-fn does<P: PassView + Send + Drop, H: Hub<Pass = P>, R: Wait>(
+fn does<P: PassView + Send + Drop, H: Hub<Pass = P>, R: Wait + Clock>(
     rt: &R,
     alloc: Global,
     hub: &H,
@@ -69,6 +86,7 @@ fn does<P: PassView + Send + Drop, H: Hub<Pass = P>, R: Wait>(
         Act::Woken(want) => is_woken(hub, pass, *want),
         Act::Raises(number) => hub.raise(pass, 0).get() == *number,
         Act::Looks(number) => number_of(hub.look(pass, 0)) == *number,
+        Act::Sleeps(millis) => sleeps(rt, hub, *millis),
         _ => {
             rings(rt, hub, act);
             true
@@ -77,7 +95,7 @@ fn does<P: PassView + Send + Drop, H: Hub<Pass = P>, R: Wait>(
 }
 
 // The same of one of two sessions.
-fn one_does<P: PassView + Send + Drop, H: Hub<Pass = P>, R: Wait>(
+fn one_does<P: PassView + Send + Drop, H: Hub<Pass = P>, R: Wait + Clock>(
     rt: &R,
     alloc: Global,
     hub: &H,
@@ -101,7 +119,7 @@ fn one_does<P: PassView + Send + Drop, H: Hub<Pass = P>, R: Wait>(
 }
 
 // Plays a script of two sessions: whether each line comes to what it says.
-pub(super) fn play<P: PassView + Send + Drop, H: Hub<Pass = P>, R: Wait>(
+pub(super) fn play<P: PassView + Send + Drop, H: Hub<Pass = P>, R: Wait + Clock>(
     rt: &R,
     alloc: Global,
     hub: &H,
@@ -125,7 +143,7 @@ pub(super) fn play<P: PassView + Send + Drop, H: Hub<Pass = P>, R: Wait>(
 }
 
 // Plays a script over a hub of its own, of so many pages, whose second session is in this database.
-fn plays_over<P: PassView + Send + Drop, H: Hub<Pass = P> + Drop, R: Wait>(
+fn plays_over<P: PassView + Send + Drop, H: Hub<Pass = P> + Drop, R: Wait + Clock>(
     rt: &R,
     alloc: Global,
     format: Format,
@@ -149,7 +167,7 @@ fn plays_over<P: PassView + Send + Drop, H: Hub<Pass = P> + Drop, R: Wait>(
 }
 
 // The same on the words.
-pub(super) fn plays<R: Wait>(
+pub(super) fn plays<R: Wait + Clock>(
     rt: &R,
     alloc: Global,
     format: Format,
@@ -164,7 +182,7 @@ pub(super) fn plays<R: Wait>(
 }
 
 // Plays each of them.
-fn plays_all<R: Wait>(rt: &R, alloc: Global, rows: &[Row]) -> bool {
+fn plays_all<R: Wait + Clock>(rt: &R, alloc: Global, rows: &[Row]) -> bool {
     for (format, pages, second_db, script) in rows {
         if !plays(rt, alloc, *format, *pages, *second_db, *script) {
             return false;

@@ -7,10 +7,10 @@ use std::thread::{Threads, join_mut};
 /// How often a session tries.
 const TIMES: u32 = 4000;
 
-/// How many notifications a session has sent and received, if memory sufficed.
-type Tally = Option<(usize, usize)>;
+/// How many notifications a session has sent and received.
+type Tally = (usize, usize);
 
-// One try: a publish, whatever it answers, and then a read.
+// One try: a publish, whatever it answers, and then a read. What a read leaves for want of memory the next one receives.
 fn try_once<P: PassView + Send + Drop, H: Hub<Pass = P>, R: Wait>(
     rt: &R,
     alloc: Global,
@@ -23,8 +23,8 @@ fn try_once<P: PassView + Send + Drop, H: Hub<Pass = P>, R: Wait>(
     ensures { H.is_pass hub.now pass.new }
 {
     let sent = publish(rt, hub, pass, notes);
-    let (_, got) = receive(alloc, hub, pass, set)?;
-    Some((if sent.is_some() { 1 } else { 0 }, got))
+    let (_, got) = receive(alloc, hub, pass, set);
+    (if sent.is_some() { 1 } else { 0 }, got)
 }
 
 // All tries of one session.
@@ -42,11 +42,11 @@ fn tries<P: PassView + Send + Drop, H: Hub<Pass = P>, R: Wait>(
     let mut sent: usize = 0;
     let mut got: usize = 0;
     'tries: for _ in 0..TIMES {
-        let (sent_once, got_once) = try_once(rt, alloc, hub, pass, notes, set)?;
+        let (sent_once, got_once) = try_once(rt, alloc, hub, pass, notes, set);
         sent = sent.saturating_add(sent_once);
         got = got.saturating_add(got_once);
     }
-    Some((sent, got))
+    (sent, got)
 }
 
 // The same on the words.
@@ -93,15 +93,15 @@ fn read_rest<P: PassView + Send + Drop, H: Hub<Pass = P>>(
     pass: &mut P,
     other: &mut P,
     set: &ListenSet,
-) -> Option<usize>
+) -> usize
     requires own { H.is_pass hub.now pass.old }
     requires other { H.is_pass hub.now other.old }
     ensures own { H.is_pass hub.now pass.new }
     ensures other { H.is_pass hub.now other.new }
 {
     hub.meet(other, pass);
-    let (_, got) = receive(alloc, hub, pass, set)?;
-    Some(got)
+    let (_, got) = receive(alloc, hub, pass, set);
+    got
 }
 
 // Two listeners send and read at the same time, and read on afterwards: whether each sent some, and each received what both have sent.
@@ -113,22 +113,18 @@ fn share<R: Threads + Wait + Sync>(
     second: &mut WordPass,
     notes: &[Note; 1],
     set: &ListenSet,
-) -> Option<bool>
+) -> bool
     requires first { IsHubPass hub.now first.old }
     requires second { IsHubPass hub.now second.old }
 {
-    let (of_first, of_second) = both_try(rt, alloc, hub, first, second, notes, set);
-    let first_rest = read_rest(alloc, hub, first, second, set)?;
-    let second_rest = read_rest(alloc, hub, second, first, set)?;
-    let (sent, got) = of_first?;
-    let (second_sent, second_got) = of_second?;
-    let all = Some(sent.saturating_add(second_sent));
-    let both_sent = sent > 0 && second_sent > 0;
-    Some(
-        both_sent
-            && got.checked_add(first_rest) == all
-            && second_got.checked_add(second_rest) == all,
-    )
+    let (one, other) = both_try(rt, alloc, hub, first, second, notes, set);
+    let one_rest = read_rest(alloc, hub, first, second, set);
+    let other_rest = read_rest(alloc, hub, second, first, set);
+    let all = one.0.saturating_add(other.0);
+    one.0 > 0
+        && other.0 > 0
+        && one.1.saturating_add(one_rest) == all
+        && other.1.saturating_add(other_rest) == all
 }
 
 // They do so over a hub of their own.
@@ -147,7 +143,7 @@ fn share_a_hub<R: Threads + Wait + Sync>(
     drop(first);
     drop(second);
     drop(hub);
-    one && other && shared == Some(true)
+    one && other && shared
 }
 
 // The same of notifications of 100 letters on the channel `c`.

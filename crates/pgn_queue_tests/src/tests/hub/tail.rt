@@ -6,6 +6,7 @@ use super::script::{Act, Line, play};
 use super::*;
 use std::thread;
 use std::thread::Threads;
+use std::time::Clock;
 
 /// How often a session advances the tail at most until it meets another one that joins.
 const ADVANCES: usize = 1_000_000;
@@ -22,7 +23,7 @@ const FIVE_ARE_SENT: &[Line] = &[
 ];
 
 // The oldest page that is kept behind them, of nine.
-fn oldest_behind_five<R: Wait>(rt: &R, alloc: Global) -> Option<u64> {
+fn oldest_behind_five<R: Wait + Clock>(rt: &R, alloc: Global) -> Option<u64> {
     let Ok((hub, mut first, mut second)) = open_pages::<WordPass, WordHub>(alloc, Format::One, 9, 1)
     else {
         return None;
