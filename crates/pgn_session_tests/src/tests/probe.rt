@@ -41,23 +41,23 @@ impl Counts {
             spent: AtomicU64::new(0),
         }
     }
+}
 
-    // Gives way, at most so many times, until the count is at least this.
-    fn wait_for(&self, count: &AtomicU64, least: u64, turns: u32) {
-        for _ in 0..turns {
-            if count.load(Ordering::SeqCst) >= least {
-                return;
-            }
-            thread::yield_now();
+// Gives way, at most so many times, until the count is at least this.
+fn wait_for(counts: &Counts, count: &AtomicU64, least: u64, turns: u32) {
+    for _ in 0..turns {
+        if count.load(Ordering::SeqCst) >= least {
+            return;
         }
-        if count.load(Ordering::SeqCst) < least {
-            self.spent.fetch_add(1, Ordering::SeqCst);
-        }
+        thread::yield_now();
     }
+    if count.load(Ordering::SeqCst) < least {
+        counts.spent.fetch_add(1, Ordering::SeqCst);
+    }
+}
 
-    fn is_spent(&self) -> bool {
-        self.spent.load(Ordering::SeqCst) != 0
-    }
+fn is_spent(counts: &Counts) -> bool {
+    counts.spent.load(Ordering::SeqCst) != 0
 }
 
 /// The first transaction waits until a second one has begun. Once the turns are spent reads find no memory. So it tells sessions that run
@@ -84,29 +84,29 @@ impl<const PACE: u32, const TURNS: u32> Probe<PACE, TURNS> {
     fn begins(&self) {
         let before = self.counts.begun.fetch_add(1, Ordering::SeqCst);
         if PACE == GATE {
-            self.counts.wait_for(&self.counts.begun, 2, TURNS);
+            wait_for(&self.counts, &self.counts.begun, 2, TURNS);
         } else if PACE == WATCH {
             let sleeps = before.saturating_add(1);
-            self.counts.wait_for(&self.counts.rests, sleeps, TURNS);
+            wait_for(&self.counts, &self.counts.rests, sleeps, TURNS);
         } else {
-            self.counts.wait_for(&self.counts.dozes, 1, TURNS);
+            wait_for(&self.counts, &self.counts.dozes, 1, TURNS);
         }
     }
 
     // Before a flag is raised.
     fn raises(&self, flag: u32) {
         if PACE == WATCH && flag == 1 {
-            self.counts.wait_for(&self.counts.reads, 1, TURNS);
+            wait_for(&self.counts, &self.counts.reads, 1, TURNS);
         }
         if PACE == RUNG && flag == 0 {
-            self.counts.wait_for(&self.counts.reads, 2, TURNS);
+            wait_for(&self.counts, &self.counts.reads, 2, TURNS);
         }
     }
 
     fn seen(&self, ended: bool) -> Seen {
         Seen {
             ended,
-            is_spent: self.counts.is_spent(),
+            is_spent: is_spent(&self.counts),
             begun: self.counts.begun.load(Ordering::SeqCst),
             rests: self.counts.rests.load(Ordering::SeqCst),
             wake_looks: self.counts.wake_looks.load(Ordering::SeqCst),
@@ -273,7 +273,7 @@ impl<const PACE: u32, const TURNS: u32> Hub for Probe<PACE, TURNS> {
         out: &mut Vec<Delivery>,
     ) -> Result<Xid, AllocError> {
         self.counts.reads.fetch_add(1, Ordering::SeqCst);
-        if PACE == GATE && self.counts.is_spent() {
+        if PACE == GATE && is_spent(&self.counts) {
             return Err(AllocError);
         }
         self.hub.scan(alloc, pass, set, out)
