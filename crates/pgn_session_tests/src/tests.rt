@@ -11,11 +11,13 @@ use pgn_threads::open_on_hub;
 use std::alloc::{AllocError, Global};
 
 mod bells;
+mod cut;
 mod gate;
 mod live;
 mod probe;
 mod turns;
 mod waits;
+mod writer;
 
 // The scenario that an input is.
 fn scenario_of(alloc: Global, input: &str) -> Option<Scenario>

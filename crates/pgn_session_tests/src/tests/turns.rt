@@ -18,7 +18,7 @@ fn take_turns<R: Threads + Wait + Clock + Sync>(
 }
 
 // Each session waits for the other one.
-const CROSSING_FLAGS: &str = "\
+pub(super) const CROSSING_FLAGS: &str = "\
 \\session a 1
 LISTEN c
 BEGIN

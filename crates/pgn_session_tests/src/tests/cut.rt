@@ -1,3 +1,5 @@
+use super::gate::SELF_NOTIFY;
+use super::turns::CROSSING_FLAGS;
 use pgn_base::{Seed, Sink, Source};
 use pgn_memory::{MemSink, MemSource};
 use pgn_run::{Status, run_notify};
@@ -5,8 +7,6 @@ use std::alloc::{AllocError, Global};
 use std::sync::Wait;
 use std::thread::Threads;
 use std::time::Clock;
-
-mod bell;
 
 // A sink that takes at most four bytes a call and fails at this call.
 fn sink_of(alloc: Global, call: u64) -> Result<MemSink, AllocError> {
@@ -58,12 +58,6 @@ fn is_cut<R: Threads + Wait + Clock + Sync>(
     failed && is_front
 }
 
-const SELF_NOTIFY: &str = "\
-\\session a 1
-LISTEN c
-NOTIFY c, 'x'
-";
-
 const OUTPUT: &str = "\
 1| > LISTEN c
 1| +enlist 3 3
@@ -91,27 +85,6 @@ fn each_write_of_a_live_run_may_fail(rt: HostRuntime) {
         );
     }
 }
-
-const CROSSING_FLAGS: &str = "\
-\\session a 1
-LISTEN c
-BEGIN
-\\await b1
-NOTIFY c, 'from a'
-COMMIT
-BEGIN
-\\signal a2
-\\await b2
-COMMIT
-\\session b 1
-LISTEN c
-BEGIN
-\\signal b1
-\\await a2
-COMMIT
-NOTIFY c, 'from b'
-\\signal b2
-";
 
 // Both sessions run on to their end where the first write fails: each would else wait for the other for a quarter of an hour.
 #[test]
