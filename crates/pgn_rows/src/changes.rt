@@ -1,10 +1,8 @@
-use crate::cases::lines;
 use crate::printer::Printer;
-use crate::row::{Outcome, Row, read_row};
-use crate::runs::run_row;
-use std::alloc::{AllocError, Global};
+use crate::row::{push_lines, read_files};
+use crate::runs::put_run_of;
+use std::alloc::AllocError;
 use std::fs::Files;
-use std::str;
 use std::sync::Wait;
 use std::thread::Threads;
 use std::time::Clock;
@@ -18,311 +16,188 @@ const LEGAL: &[u8] = b"legal\n";
 // The changes of a text by its line of a number: that line is left out, stands twice, or stands behind the next one.
 const CHANGES: [&str; 3] = ["without", "twice", "behind"];
 
-/// What `check` says of the outputs of rows, told by the lines of this input. A line with the name of a row is answered with what
-/// `check` says of its output, and with the changes of that by one line that are legal too, though they change the text. A line with
-/// a name, a change and a line's number is answered with what it says of the output with this change.
-pub fn changes_row<R: Files + AllocGlobal + Threads + Wait + Clock + Sync>(
+/// Puts what `check` says of the output of a row that a line names, and the changes of that by one line that are legal too, though they
+/// change the text. Where the line has a change and a line's number behind the name, it is what `check` says of the output with this
+/// change.
+pub fn put_changes<R: Files + AllocGlobal + Threads + Wait + Clock + Sync>(
     rt: &R,
-    alloc: Global,
-    input: &[u8],
-) -> Result<Vec<u8>, AllocError> {
-    let lines = lines(alloc, input)?;
-    let mut printer = Printer::new(alloc);
-    put_lines(rt, alloc, &mut printer, lines.as_slice());
-    drop(lines);
-    printer.into_text()
-}
-
-fn put_lines<R: Files + AllocGlobal + Threads + Wait + Clock + Sync>(
-    rt: &R,
-    alloc: Global,
-    printer: &mut Printer,
-    lines: &[&[u8]],
-) {
-    for line in lines {
-        if let Ok(asked) = str::from_utf8(line) {
-            put_asked(rt, alloc, printer, asked);
-        }
-    }
-}
-
-fn put_asked<R: Files + AllocGlobal + Threads + Wait + Clock + Sync>(
-    rt: &R,
-    alloc: Global,
     printer: &mut Printer,
     asked: &str,
 ) {
-    let (name, _) = parted(asked);
-    match read_row(rt, name) {
-        Ok(row) => {
-            put_row(rt, alloc, printer, asked, &row);
-            drop(row);
-        }
-        Err(error) => {
-            drop(error);
-            put_answer(printer, asked, b"cannot be read\n");
-        }
-    }
-}
-
-// The name of a row, and the change that is named behind it.
-fn parted(asked: &str) -> (&str, &str) {
-    match asked.split_once(' ') {
-        Some((name, change)) => (name, change),
-        None => (asked, ""),
-    }
-}
-
-fn put_row<R: Threads + Wait + Clock + Sync>(
-    rt: &R,
-    alloc: Global,
-    printer: &mut Printer,
-    asked: &str,
-    row: &Row,
-) {
-    match lines(alloc, row.wanted.output.as_slice()) {
-        Ok(lines) => {
-            put_lines_of(rt, alloc, printer, asked, row, lines.as_slice());
-            drop(lines);
-        }
-        Err(error) => printer.fail(error),
-    }
-}
-
-fn put_lines_of<R: Threads + Wait + Clock + Sync>(
-    rt: &R,
-    alloc: Global,
-    printer: &mut Printer,
-    asked: &str,
-    row: &Row,
-    lines: &[&[u8]],
-) {
-    match check_words(alloc, row.words.as_slice()) {
-        Ok(words) => {
-            let checked = Checked {
-                words: words.as_slice(),
-                scenario: row.input.as_slice(),
-                lines,
-            };
-            checked.put_asked(rt, alloc, printer, asked);
-            drop(words);
-        }
-        Err(error) => printer.fail(error),
-    }
-}
-
-fn put_answer(printer: &mut Printer, asked: &str, answer: &[u8]) {
+    let (name, change) = asked.split_once(' ').unwrap_or((asked, ""));
     printer.bytes(asked.as_bytes());
     printer.bytes(b": ");
-    printer.bytes(answer);
+    let mut files = Vec::new(rt.alloc());
+    match read_files(rt, name, &mut files) {
+        Ok(()) => put_checked(rt, printer, name, change, files.as_slice()),
+        Err(AllocError) => printer.fail(),
+    }
+    drop(files);
 }
 
-// The words with which the output of a run of these words is checked.
-fn check_words(alloc: Global, words: &[String]) -> Result<Vec<String>, AllocError> {
-    let mut all = Vec::new(alloc);
-    match put_words(&mut all, alloc, words) {
-        Ok(()) => Ok(all),
-        Err(error) => {
-            drop(all);
-            Err(error)
+fn put_checked<R: AllocGlobal + Threads + Wait + Clock + Sync>(
+    rt: &R,
+    printer: &mut Printer,
+    name: &str,
+    change: &str,
+    files: &[Vec<u8>],
+) {
+    let [input, output, of_run, _] = files else {
+        return printer.fail();
+    };
+    let mut words = Vec::new(rt.alloc());
+    let mut lines = Vec::new(rt.alloc());
+    match push_check(&mut words, &mut lines, of_run.as_slice(), output.as_slice()) {
+        Some(()) => {
+            let checked = Checked {
+                rt,
+                words: words.as_slice(),
+                scenario: input.as_slice(),
+                lines: lines.as_slice(),
+            };
+            checked.put(printer, name, change);
         }
+        None => printer.fail(),
     }
+    drop(words);
+    drop(lines);
 }
 
-fn put_words(all: &mut Vec<String>, alloc: Global, words: &[String]) -> Result<(), AllocError> {
-    put_word(all, alloc, "check")?;
-    for word in words.iter().skip(1) {
-        put_word(all, alloc, word.as_str())?;
-    }
-    Ok(())
-}
-
-fn put_word(all: &mut Vec<String>, alloc: Global, word: &str) -> Result<(), AllocError> {
-    let word = String::from_str(alloc, word)?;
-    all.push(word)?;
-    Ok(())
+// Puts the words with which the output of a run of these words is checked, and the lines of that output.
+fn push_check<'a>(
+    words: &mut Vec<&'a str>,
+    lines: &mut Vec<&'a str>,
+    of_run: &'a [u8],
+    output: &'a [u8],
+) -> Option<()> {
+    push_lines(words, of_run)?;
+    let command = words.first_mut()?;
+    *command = "check";
+    push_lines(lines, output)
 }
 
 // The output of a row that is a run: with what words it is checked, its scenario and its lines.
-#[derive(Clone, Copy)]
-struct Checked<'a> {
-    words: &'a [String],
+#[derive(Drop)]
+struct Checked<'a, R> {
+    rt: &'a R,
+    words: &'a [&'a str],
     scenario: &'a [u8],
-    lines: &'a [&'a [u8]],
+    lines: &'a [&'a str],
 }
 
-impl<'a> Checked<'a> {
-    fn put_asked<R: Threads + Wait + Clock + Sync>(
-        &self,
-        rt: &R,
-        alloc: Global,
-        printer: &mut Printer,
-        asked: &str,
-    ) {
-        let (name, change) = parted(asked);
-        if change.is_empty() {
-            self.put_all(rt, alloc, printer, name);
-        } else {
-            put_answer(printer, asked, b"");
-            printer.owned(self.answer_to_change(rt, alloc, change));
-        }
-    }
-
-    // The answer to the output, and each change by one line that changes the text and is legal.
-    fn put_all<R: Threads + Wait + Clock + Sync>(
-        &self,
-        rt: &R,
-        alloc: Global,
-        printer: &mut Printer,
-        name: &str,
-    ) {
-        put_answer(printer, name, b"");
-        printer.owned(self.answer(rt, alloc, self.lines));
-        for at in 0..self.lines.len() {
-            self.put_legal_at(rt, alloc, printer, name, at);
-        }
-    }
-
-    fn put_legal_at<R: Threads + Wait + Clock + Sync>(
-        &self,
-        rt: &R,
-        alloc: Global,
-        printer: &mut Printer,
-        name: &str,
-        at: usize,
-    ) {
-        for change in CHANGES {
-            match self.is_legal_with(rt, alloc, change, at) {
-                Ok(true) => put_legal(printer, name, change, at),
-                Ok(false) => {}
-                Err(error) => printer.fail(error),
+impl<R: AllocGlobal + Threads + Wait + Clock + Sync> Checked<'_, R> {
+    fn put(&self, printer: &mut Printer, name: &str, change: &str) {
+        match change.split_once(' ') {
+            Some((what, number)) => {
+                let number = number.parse::<usize>().unwrap_or(0);
+                self.put_answer(printer, what, number.saturating_sub(1));
+            }
+            None => {
+                self.put_answer(printer, "", 0);
+                self.put_all_legal(printer, name);
             }
         }
     }
 
-    // Whether the output with this change at a place is another text, and legal.
-    fn is_legal_with<R: Threads + Wait + Clock + Sync>(
+    fn put_all_legal(&self, printer: &mut Printer, name: &str) {
+        for at in 0..self.lines.len() {
+            self.put_legal_at(printer, name, at);
+        }
+    }
+
+    // Names each change of the line at a place that changes the text and is legal.
+    fn put_legal_at(&self, printer: &mut Printer, name: &str, at: usize) {
+        for change in &CHANGES {
+            if self.is_changed(*change, at) {
+                self.put_if_legal(printer, name, *change, at);
+            }
+        }
+    }
+
+    // Whether a change of the line at a place changes the text.
+    fn is_changed(&self, change: &str, at: usize) -> bool {
+        match (self.lines.get(at), self.lines.get(at.saturating_add(1))) {
+            (Some(line), Some(next)) => change != "behind" || *line != *next,
+            _ => change != "behind",
+        }
+    }
+
+    fn put_if_legal(&self, printer: &mut Printer, name: &str, change: &str, at: usize) {
+        let mut answer = Printer::new(self.rt.alloc());
+        self.put_answer(&mut answer, change, at);
+        match answer.text() {
+            Some(text) => put_legal(printer, name, change, at, text == LEGAL),
+            None => printer.fail(),
+        }
+        drop(answer);
+    }
+
+    // What `check` says of the output with a change of the line at a place.
+    fn put_answer(&self, printer: &mut Printer, change: &str, at: usize) {
+        let mut input = Vec::new(self.rt.alloc());
+        match self.push_input(&mut input, change, at) {
+            Ok(()) => {
+                put_run_of(self.rt, printer, self.words, input.as_slice());
+            }
+            Err(AllocError) => printer.fail(),
+        }
+        drop(input);
+    }
+
+    // Puts the scenario, and behind it this output.
+    fn push_input(&self, input: &mut Vec<u8>, change: &str, at: usize) -> Result<(), AllocError> {
+        input.extend_from_slice(self.scenario)?;
+        if !self.scenario.ends_with(b"\n") {
+            input.push(b'\n')?;
+        }
+        input.extend_from_slice(OUTPUT)?;
+        for here in 0..self.lines.len() {
+            self.push_line(input, change, at, here)?;
+        }
+        Ok(())
+    }
+
+    // Puts what stands for the line here.
+    fn push_line(
         &self,
-        rt: &R,
-        alloc: Global,
+        input: &mut Vec<u8>,
         change: &str,
         at: usize,
-    ) -> Result<bool, AllocError> {
-        let changed = changed(alloc, self.lines, change, at)?;
-        let legal = self.is_legal(rt, alloc, changed.as_slice());
-        drop(changed);
-        legal
-    }
-
-    fn is_legal<R: Threads + Wait + Clock + Sync>(
-        &self,
-        rt: &R,
-        alloc: Global,
-        lines: &[&[u8]],
-    ) -> Result<bool, AllocError> {
-        if lines == self.lines {
-            return Ok(false);
+        here: usize,
+    ) -> Result<(), AllocError> {
+        let next = at.saturating_add(1);
+        match change {
+            "without" if here == at => Ok(()),
+            "twice" if here == at => {
+                self.push_line_at(input, here)?;
+                self.push_line_at(input, here)
+            }
+            "behind" if here == at && next < self.lines.len() => self.push_line_at(input, next),
+            "behind" if here == next => self.push_line_at(input, at),
+            _ => self.push_line_at(input, here),
         }
-        let answer = self.answer(rt, alloc, lines)?;
-        let legal = answer.as_slice() == LEGAL;
-        drop(answer);
-        Ok(legal)
     }
 
-    // The answer to the output with this change, which has the number of a line behind its name.
-    fn answer_to_change<R: Threads + Wait + Clock + Sync>(
-        &self,
-        rt: &R,
-        alloc: Global,
-        change: &str,
-    ) -> Result<Vec<u8>, AllocError> {
-        let Some((change, number)) = change.split_once(' ') else {
-            return Vec::from_slice(alloc, b"no change\n");
-        };
-        let number = number.parse::<usize>().unwrap_or(0);
-        let changed = changed(alloc, self.lines, change, number.saturating_sub(1))?;
-        let answer = self.answer(rt, alloc, changed.as_slice());
-        drop(changed);
-        answer
-    }
-
-    // What `check` says of these lines, as the output of the row's scenario.
-    fn answer<R: Threads + Wait + Clock + Sync>(
-        &self,
-        rt: &R,
-        alloc: Global,
-        lines: &[&[u8]],
-    ) -> Result<Vec<u8>, AllocError> {
-        let mut input = Vec::from_slice(alloc, self.scenario)?;
-        if let Err(error) = put_output(&mut input, lines) {
-            drop(input);
-            return Err(error);
-        }
-        let Outcome { output, .. } = run_row(rt, alloc, self.words, input)?;
-        Ok(output)
-    }
-}
-
-// Puts these lines behind a scenario, as its output.
-fn put_output(input: &mut Vec<u8>, lines: &[&[u8]]) -> Result<(), AllocError> {
-    if !input.is_empty() && !input.ends_with(b"\n") {
-        input.push(b'\n')?;
-    }
-    input.extend_from_slice(OUTPUT)?;
-    for line in lines {
-        input.extend_from_slice(line)?;
-        input.push(b'\n')?;
-    }
-    Ok(())
-}
-
-// Names a change that is legal.
-fn put_legal(printer: &mut Printer, name: &str, change: &str, at: usize) {
-    printer.bytes(name.as_bytes());
-    printer.bytes(b" ");
-    printer.bytes(change.as_bytes());
-    printer.bytes(b" ");
-    printer.number(at.saturating_add(1) as u64);
-    printer.bytes(b": ");
-    printer.bytes(LEGAL);
-}
-
-// These lines with a change of the line at a place. A place behind the last one changes nothing.
-fn changed<'a>(
-    alloc: Global,
-    lines: &[&'a [u8]],
-    change: &str,
-    at: usize,
-) -> Result<Vec<&'a [u8]>, AllocError> {
-    let mut changed = Vec::from_slice(alloc, lines)?;
-    match change_at(&mut changed, change, at) {
-        Ok(()) => Ok(changed),
-        Err(error) => {
-            drop(changed);
-            Err(error)
+    fn push_line_at(&self, input: &mut Vec<u8>, here: usize) -> Result<(), AllocError> {
+        match self.lines.get(here) {
+            Some(line) => {
+                input.extend_from_slice(line.as_bytes())?;
+                input.push(b'\n')?;
+                Ok(())
+            }
+            None => Ok(()),
         }
     }
 }
 
-// Changes the line at a place, where there is one.
-fn change_at(lines: &mut Vec<&[u8]>, change: &str, at: usize) -> Result<(), AllocError> {
-    if at >= lines.len() {
-        return Ok(());
-    }
-    match change {
-        "without" => {
-            lines.remove(at);
-            Ok(())
-        }
-        "twice" => {
-            let line = lines[at];
-            lines.insert(at, line)?;
-            Ok(())
-        }
-        "behind" => {
-            lines.swap(at, (at + 1).min(lines.len() - 1));
-            Ok(())
-        }
-        _ => Ok(()),
+// Names a change where it is legal.
+fn put_legal(printer: &mut Printer, name: &str, change: &str, at: usize, is_legal: bool) {
+    if is_legal {
+        printer.bytes(name.as_bytes());
+        printer.bytes(b" ");
+        printer.bytes(change.as_bytes());
+        printer.numbered(b" ", at.saturating_add(1) as u64);
+        printer.bytes(b": ");
+        printer.bytes(LEGAL);
     }
 }

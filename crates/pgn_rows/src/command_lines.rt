@@ -1,56 +1,35 @@
-use crate::cases::lines;
 use crate::printer::Printer;
 use pgn_base::Format;
 use pgn_options::{Asked, WordsFault, read_words};
 use std::alloc::{AllocError, Global};
 
-/// What the words of each line of the input ask for, a line each. A space stands between two words; a `.` alone on its line stands for
-/// no word.
-pub fn command_lines_row(alloc: Global, input: &[u8]) -> Result<Vec<u8>, AllocError> {
-    let lines = lines(alloc, input)?;
-    let mut printer = Printer::new(alloc);
-    put_lines(&mut printer, alloc, lines.as_slice());
-    drop(lines);
-    printer.into_text()
+/// Puts what the words of a line ask for. A space stands between two words; a `.` alone on its line stands for no word.
+pub fn put_asked(printer: &mut Printer, alloc: Global, line: &str) {
+    let mut words = Vec::new(alloc);
+    match push_words(&mut words, line) {
+        Ok(()) => put_reading(printer, alloc, words.as_slice()),
+        Err(AllocError) => printer.fail(),
+    }
+    drop(words);
+    printer.bytes(b"\n");
 }
 
-fn put_lines(printer: &mut Printer, alloc: Global, lines: &[&[u8]]) {
-    for line in lines {
-        put_asked(printer, alloc, line);
-        printer.bytes(b"\n");
+fn push_words<'a>(words: &mut Vec<&'a str>, line: &'a str) -> Result<(), AllocError> {
+    if line == "." {
+        return Ok(());
     }
-}
-
-fn put_asked(printer: &mut Printer, alloc: Global, line: &[u8]) {
-    let Ok(line) = str::from_utf8(line) else {
-        return printer.bytes(b"no line");
-    };
-    match words_of(alloc, line) {
-        Ok(words) => {
-            put_reading(printer, alloc, words.as_slice());
-            drop(words);
-        }
-        Err(error) => printer.fail(error),
+    for word in line.split(' ') {
+        words.push(word)?;
     }
+    Ok(())
 }
 
 fn put_reading(printer: &mut Printer, alloc: Global, words: &[&str]) {
     match read_words(alloc, words) {
         Ok(asked) => put_numbers(printer, asked),
         Err(WordsFault::BadWords) => printer.bytes(b"no command"),
-        Err(WordsFault::Memory) => printer.bytes(b"no memory"),
+        Err(WordsFault::Memory) => printer.fail(),
     }
-}
-
-fn words_of(alloc: Global, line: &str) -> Result<Vec<&str>, AllocError> {
-    let mut words = Vec::new(alloc);
-    if line == "." {
-        return Ok(words);
-    }
-    for word in line.split(' ') {
-        words.push(word)?;
-    }
-    Ok(words)
 }
 
 fn put_numbers(printer: &mut Printer, asked: Asked) {
@@ -61,7 +40,7 @@ fn put_numbers(printer: &mut Printer, asked: Asked) {
             format,
             live,
         } => {
-            put_settings(printer, b"run", pages, patience, format);
+            put_settings(printer, b"run ", pages, patience, format);
             if live {
                 printer.bytes(b" live");
             }
@@ -71,40 +50,26 @@ fn put_numbers(printer: &mut Printer, asked: Asked) {
             sessions,
             notes,
         } => {
-            printer.bytes(b"drill");
-            put_number(printer, seed);
-            put_number(printer, u64::from(sessions));
-            put_number(printer, u64::from(notes));
+            printer.numbered(b"drill ", seed);
+            printer.numbered(b" ", u64::from(sessions));
+            printer.numbered(b" ", u64::from(notes));
         }
         Asked::Wire => printer.bytes(b"wire"),
         Asked::Check {
             pages,
             patience,
             format,
-        } => put_settings(printer, b"check", pages, patience, format),
-        Asked::Serve { seats } => {
-            printer.bytes(b"serve");
-            put_number(printer, u64::from(seats));
-        }
+        } => put_settings(printer, b"check ", pages, patience, format),
+        Asked::Serve { seats } => printer.numbered(b"serve ", u64::from(seats)),
     }
 }
 
 // The word of a command, and the numbers behind it.
 fn put_settings(printer: &mut Printer, word: &[u8], pages: u32, patience: u64, format: Format) {
-    printer.bytes(word);
-    put_number(printer, u64::from(pages));
-    put_number(printer, patience);
-    put_number(printer, number_of(format));
-}
-
-fn put_number(printer: &mut Printer, number: u64) {
-    printer.bytes(b" ");
-    printer.number(number);
-}
-
-fn number_of(format: Format) -> u64 {
+    printer.numbered(word, u64::from(pages));
+    printer.numbered(b" ", patience);
     match format {
-        Format::One => 1,
-        Format::Two => 2,
+        Format::One => printer.bytes(b" 1"),
+        Format::Two => printer.bytes(b" 2"),
     }
 }

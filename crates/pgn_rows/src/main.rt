@@ -7,9 +7,9 @@
 //! - a plain name: a run of the program, of these words over this input;
 //! - `.lines`: each line of the input is a line of SQL, and the output has what it reads as, a line each;
 //! - `.faults`: the output has for each case of the input its fault, or the scenario that it reads as;
-//! - `.answers`: each line of the input is a line of SQL, and the output has its answers in each state of a transaction block;
 //! - `.asked`: each line of the input has the words of a command line, a space between two, and the output has what they ask for;
 //! - `.blocks`: the lines of a case are told to one block, one after another, and the output has the answer to each;
+//! - `.checks`: each case of the input is a scenario with an output, and the output of the row has what `check` says of it, a line each;
 //! - `.changes`: each line of the input names a row that is a run, and may name a change of its output by one line; the output has what
 //!   `check` says of it.
 //!
@@ -22,12 +22,11 @@
 #![tactic(auto)]
 
 mod answers;
-mod cases;
 mod changes;
 mod command_lines;
-mod faults;
-mod lines;
+mod parts;
 mod printer;
+mod readings;
 mod report;
 mod row;
 mod runs;
@@ -40,8 +39,10 @@ use std::io::Write;
 fn main(rt: HostRuntime) -> io::Result<()> {
     for name in rt.lines(rt.alloc()) {
         let name = name?;
-        let text = report(&rt, rt.alloc(), name.as_str());
-        let _ = rt.stdout().write_all(text.as_slice());
+        let report = report(&rt, name.as_str());
+        if let Some(text) = report.text() {
+            let _ = rt.stdout().write_all(text);
+        }
     }
     Ok(())
 }

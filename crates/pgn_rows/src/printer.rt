@@ -1,75 +1,50 @@
+use itoa::Buffer;
 use pgn_answers::BlockState;
 use pgn_base::{Action, Actions, Command, Name, Needs, Note, Notes, Refusal, Tag, Warning, Which};
 use pgn_block::{Effect, Kind};
 use pgn_language::{Act, Scenario, ScenarioFault, ScriptLine, Section};
-use std::alloc::{AllocError, Global};
+use std::alloc::Global;
 
 /// The text that shows values to readers of the rows, in plain words. Names stand in double and payloads in single quotes, as
-/// they are. Once memory did not suffice, nothing more is put.
+/// they are. Once something could not be put, nothing more is.
 #[derive(Drop)]
 pub struct Printer {
-    alloc: Global,
     text: Vec<u8>,
-    so_far: Result<(), AllocError>,
+    is_cut: bool,
 }
 
 impl Printer {
     pub fn new(alloc: Global) -> Printer {
         Printer {
-            alloc,
             text: Vec::new(alloc),
-            so_far: Ok(()),
+            is_cut: false,
         }
     }
 
     /// The text, where all of it was put.
-    pub fn into_text(self) -> Result<Vec<u8>, AllocError> {
-        let Printer { text, so_far, .. } = self;
-        match so_far {
-            Ok(()) => Ok(text),
-            Err(error) => {
-                drop(text);
-                Err(error)
-            }
+    pub fn text(&self) -> Option<&[u8]> {
+        if self.is_cut {
+            return None;
         }
+        Some(self.text.as_slice())
     }
 
     pub fn bytes(&mut self, bytes: &[u8]) {
-        if self.so_far.is_ok() {
-            self.so_far = self.text.extend_from_slice(bytes);
+        if !self.is_cut {
+            self.is_cut = self.text.extend_from_slice(bytes).is_err();
         }
     }
 
-    /// Puts what memory may not have sufficed for.
-    pub fn owned(&mut self, bytes: Result<Vec<u8>, AllocError>) {
-        match bytes {
-            Ok(bytes) => {
-                self.bytes(bytes.as_slice());
-                drop(bytes);
-            }
-            Err(error) => self.fail(error),
-        }
+    /// Notes that something could not be put.
+    pub fn fail(&mut self) {
+        self.is_cut = true;
     }
 
-    /// Notes that memory did not suffice for what was to be put.
-    pub fn fail(&mut self, error: AllocError) {
-        self.so_far = Err(error);
-    }
-
-    /// The line that follows what is printed of a case.
-    pub fn end_of_case(&mut self) {
-        self.bytes(b"=====\n");
-    }
-
-    /// A number in decimal.
-    pub fn number(&mut self, number: u64) {
-        match format!(in self.alloc; "{number}") {
-            Ok(digits) => {
-                self.bytes(digits.as_bytes());
-                drop(digits);
-            }
-            Err(error) => self.fail(error),
-        }
+    /// A number in decimal, behind these words.
+    pub fn numbered(&mut self, words: &[u8], number: u64) {
+        let mut digits = Buffer::new();
+        self.bytes(words);
+        self.bytes(digits.format(number).as_bytes());
     }
 
     fn named(&mut self, words: &[u8], name: &Name) {
@@ -89,23 +64,24 @@ impl Printer {
     /// What a line of SQL asks for.
     pub fn command(&mut self, command: &Command) {
         match command {
+            Command::Empty => self.bytes(b"nothing"),
+            Command::Begin => self.bytes(b"begin"),
+            Command::Start => self.bytes(b"start transaction"),
+            Command::Commit => self.bytes(b"commit"),
+            Command::Rollback => self.bytes(b"rollback"),
             Command::Savepoint(name) => self.named(b"savepoint", name),
             Command::RollbackTo(name) => self.named(b"rollback to", name),
             Command::Release(name) => self.named(b"release", name),
             Command::Listen(name) => self.named(b"listen", name),
             Command::Unlisten(name) => self.named(b"unlisten", name),
+            Command::UnlistenAll => self.bytes(b"unlisten all"),
             Command::Notify(note) => self.note(b"notify", note),
             Command::PgNotify(note) => self.note(b"pg_notify", note),
+            Command::ListeningChannels => self.bytes(b"listening channels"),
+            Command::QueueUsage => self.bytes(b"queue usage"),
             Command::Invalid { which } => self.bytes(which_text(*which)),
-            Command::Bad { at } => self.at_byte(b"wrong", *at),
-            other => self.bytes(command_text(other)),
+            Command::Bad { at } => self.numbered(b"wrong at byte ", u64::from(*at)),
         }
-    }
-
-    fn at_byte(&mut self, what: &[u8], at: u32) {
-        self.bytes(what);
-        self.bytes(b" at byte ");
-        self.number(u64::from(at));
     }
 
     /// Why an input is no scenario.
@@ -113,7 +89,7 @@ impl Printer {
         match fault {
             ScenarioFault::TooLarge => self.bytes(b"too large"),
             ScenarioFault::LineTooLong { line } => self.at_line(line, b"too long"),
-            ScenarioFault::NotUtf8 { at } => self.at_byte(b"not UTF-8", at),
+            ScenarioFault::NotUtf8 { at } => self.numbered(b"not UTF-8 at byte ", u64::from(at)),
             ScenarioFault::NulByte { line } => self.at_line(line, b"zero byte"),
             ScenarioFault::BadMeta { line } => self.at_line(line, b"bad meta line"),
             ScenarioFault::NoSession { line } => self.at_line(line, b"before the first section"),
@@ -128,8 +104,7 @@ impl Printer {
     }
 
     fn at_line(&mut self, line: u32, what: &[u8]) {
-        self.bytes(b"line ");
-        self.number(u64::from(line));
+        self.numbered(b"line ", u64::from(line));
         self.bytes(b": ");
         self.bytes(what);
     }
@@ -140,57 +115,31 @@ impl Printer {
         for flag in scenario.flags.as_slice() {
             self.named(b"", flag);
         }
-        self.sections(scenario.sections.as_slice());
-    }
-
-    fn sections(&mut self, sections: &[Section]) {
-        for section in sections {
-            self.section_head(section);
-            self.script(section.lines.as_slice());
+        for section in scenario.sections.as_slice() {
+            self.section(section);
         }
     }
 
-    fn section_head(&mut self, section: &Section) {
-        self.bytes(b"\nsection ");
-        self.number(u64::from(section.no.get()));
+    fn section(&mut self, section: &Section) {
+        self.numbered(b"\nsection ", u64::from(section.no.get()));
         self.named(b"", &section.name);
-        self.section_numbers(section.db.get(), section.note_lines);
-    }
-
-    fn section_numbers(&mut self, database: u32, note_lines: u32) {
-        self.bytes(b" database ");
-        self.number(u64::from(database));
-        self.bytes(b" lines that notify ");
-        self.number(u64::from(note_lines));
-    }
-
-    fn script(&mut self, lines: &[ScriptLine]) {
-        for line in lines {
+        self.numbered(b" database ", u64::from(section.db.get()));
+        self.numbered(b" lines that notify ", u64::from(section.note_lines));
+        for line in section.lines.as_slice() {
             self.script_line(line);
         }
     }
 
+    // A flag is shown by its place among the flags, from 0.
     fn script_line(&mut self, line: &ScriptLine) {
-        self.bytes(b"\n");
-        self.number(u64::from(line.line));
+        self.numbered(b"\n", u64::from(line.line));
         self.bytes(b" ");
         self.bytes(line.text.as_bytes());
         self.bytes(b": ");
-        self.act(&line.act);
-    }
-
-    // A flag is shown by its place among the flags, from 0.
-    fn act(&mut self, act: &Act) {
-        match act {
+        match &line.act {
             Act::Run(command) => self.command(command),
-            Act::Signal(flag) => {
-                self.bytes(b"signal flag ");
-                self.number(u64::from(*flag));
-            }
-            Act::Await(flag) => {
-                self.bytes(b"await flag ");
-                self.number(u64::from(*flag));
-            }
+            Act::Signal(flag) => self.numbered(b"signal flag ", u64::from(*flag)),
+            Act::Await(flag) => self.numbered(b"await flag ", u64::from(*flag)),
             Act::Quit => self.bytes(b"quit"),
         }
     }
@@ -208,7 +157,10 @@ impl Printer {
                 actions,
                 notes,
                 tag,
-            } => self.commit(actions, notes, *tag),
+            } => {
+                self.handed_out(actions, notes);
+                self.tag(*tag);
+            }
             Effect::Query { kind } => match kind {
                 Kind::ListeningChannels => self.bytes(b"the channels"),
                 Kind::QueueUsage => self.bytes(b"the usage"),
@@ -218,51 +170,47 @@ impl Printer {
 
     fn tag(&mut self, tag: Tag) {
         match tag {
-            Tag::Select(rows) => {
-                self.bytes(b"SELECT ");
-                self.number(u64::from(rows));
-            }
-            other => self.bytes(tag_text(other)),
+            Tag::Begin => self.bytes(b"BEGIN"),
+            Tag::Start => self.bytes(b"START TRANSACTION"),
+            Tag::Commit => self.bytes(b"COMMIT"),
+            Tag::Rollback => self.bytes(b"ROLLBACK"),
+            Tag::Savepoint => self.bytes(b"SAVEPOINT"),
+            Tag::Release => self.bytes(b"RELEASE"),
+            Tag::Listen => self.bytes(b"LISTEN"),
+            Tag::Unlisten => self.bytes(b"UNLISTEN"),
+            Tag::Notify => self.bytes(b"NOTIFY"),
+            Tag::Select(rows) => self.numbered(b"SELECT ", u64::from(rows)),
         }
     }
 
-    // What is handed out, and then the tag.
-    fn commit(&mut self, actions: &Actions, notes: &Notes, tag: Tag) {
+    // What a commit hands out.
+    fn handed_out(&mut self, actions: &Actions, notes: &Notes) {
         self.bytes(b"commit");
-        self.actions(actions);
-        self.notes(notes);
-        self.bytes(b"; ");
-        self.tag(tag);
-    }
-
-    fn actions(&mut self, actions: &Actions) {
         for action in actions.as_slice() {
-            match action {
-                Action::Listen(name) => self.named(b", listen", name),
-                Action::Unlisten(name) => self.named(b", unlisten", name),
-                Action::UnlistenAll => self.bytes(b", unlisten all"),
-            }
+            self.action(action);
         }
-    }
-
-    fn notes(&mut self, notes: &Notes) {
         for note in notes.as_slice() {
             self.note(b", notify", note);
+        }
+        self.bytes(b"; ");
+    }
+
+    fn action(&mut self, action: &Action) {
+        match action {
+            Action::Listen(name) => self.named(b", listen", name),
+            Action::Unlisten(name) => self.named(b", unlisten", name),
+            Action::UnlistenAll => self.bytes(b", unlisten all"),
         }
     }
 
     fn refusal(&mut self, refusal: &Refusal) {
         match refusal {
-            Refusal::Syntax { at } => self.at_byte(b"ERROR: 42601: syntax error", *at),
+            Refusal::Syntax { at } => self.numbered(SYNTAX, u64::from(*at)),
             Refusal::Bounds { which } => {
                 self.bytes(b"ERROR: 22023: ");
                 self.bytes(which_text(*which));
             }
-            Refusal::NeedsBlock { what } => {
-                self.bytes(b"ERROR: 25P01: ");
-                self.bytes(needs_text(*what));
-                self.bytes(b" can only be used in transaction blocks");
-            }
+            Refusal::NeedsBlock { what } => self.bytes(needs_text(*what)),
             Refusal::NoSavepoint { name } => {
                 self.named(b"ERROR: 3B001: savepoint", name);
                 self.bytes(b" does not exist");
@@ -271,49 +219,21 @@ impl Printer {
             Refusal::QueueFull => self.bytes(FULL),
         }
     }
-
-    /// A block's state.
-    pub fn state(&mut self, state: BlockState) {
-        match state {
-            BlockState::Idle => self.bytes(b"no block"),
-            BlockState::InBlock => self.bytes(b"block"),
-            BlockState::Failed => self.bytes(b"failed block"),
-        }
-    }
 }
+
+const SYNTAX: &[u8] = b"ERROR: 42601: syntax error at byte ";
 
 const ABORTED: &[u8] =
     b"ERROR: 25P02: current transaction is aborted, commands ignored until end of transaction block";
 
 const FULL: &[u8] = b"ERROR: 54000: too many notifications in the NOTIFY queue";
 
-// A command with nothing that varies. The others have words in `command`.
-fn command_text(command: &Command) -> &'static [u8] {
-    match command {
-        Command::Empty => b"nothing",
-        Command::Begin => b"begin",
-        Command::Start => b"start transaction",
-        Command::Commit => b"commit",
-        Command::Rollback => b"rollback",
-        Command::UnlistenAll => b"unlisten all",
-        Command::ListeningChannels => b"listening channels",
-        Command::QueueUsage => b"queue usage",
-        _ => b"?",
-    }
-}
-
-fn tag_text(tag: Tag) -> &'static [u8] {
-    match tag {
-        Tag::Begin => b"BEGIN",
-        Tag::Start => b"START TRANSACTION",
-        Tag::Commit => b"COMMIT",
-        Tag::Rollback => b"ROLLBACK",
-        Tag::Savepoint => b"SAVEPOINT",
-        Tag::Release => b"RELEASE",
-        Tag::Listen => b"LISTEN",
-        Tag::Unlisten => b"UNLISTEN",
-        Tag::Notify => b"NOTIFY",
-        Tag::Select(_) => b"SELECT",
+/// A block's state.
+pub fn state_text(state: BlockState) -> &'static [u8] {
+    match state {
+        BlockState::Idle => b"no block",
+        BlockState::InBlock => b"block",
+        BlockState::Failed => b"failed block",
     }
 }
 
@@ -337,8 +257,12 @@ fn which_text(which: Which) -> &'static [u8] {
 
 fn needs_text(needs: Needs) -> &'static [u8] {
     match needs {
-        Needs::Savepoint => b"SAVEPOINT",
-        Needs::RollbackTo => b"ROLLBACK TO SAVEPOINT",
-        Needs::Release => b"RELEASE SAVEPOINT",
+        Needs::Savepoint => b"ERROR: 25P01: SAVEPOINT can only be used in transaction blocks",
+        Needs::RollbackTo => {
+            b"ERROR: 25P01: ROLLBACK TO SAVEPOINT can only be used in transaction blocks"
+        }
+        Needs::Release => {
+            b"ERROR: 25P01: RELEASE SAVEPOINT can only be used in transaction blocks"
+        }
     }
 }

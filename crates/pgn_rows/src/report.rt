@@ -1,144 +1,85 @@
-ghost use Rattle.std.specs.Prelude.{◌≡◌, ◌++◌, IfOk, codes};
-
-use crate::answers::{answers_row, blocks_row};
-use crate::changes::changes_row;
-use crate::command_lines::command_lines_row;
-use crate::faults::faults_row;
-use crate::lines::lines_row;
+use crate::parts::put_parts;
 use crate::printer::Printer;
-use crate::row::{Outcome, Row, read_row};
-use crate::runs::run_row;
-use std::alloc::{AllocError, Global};
+use crate::row::read_files;
+use crate::runs::put_run;
+use std::alloc::AllocError;
 use std::fs::Files;
 use std::sync::Wait;
 use std::thread::Threads;
 use std::time::Clock;
 
-/// What is printed of the row of this name: the name alone where the row comes out right.
+// What stands before the exit status.
+const STATUS: &[u8] = b"status ";
+
+/// What is printed of the row of this name: the name alone where the row comes out right, and nothing where memory does not suffice.
 pub fn report<R: Files + AllocGlobal + Threads + Wait + Clock + Sync>(
     rt: &R,
-    alloc: Global,
     name: &str,
-) -> Vec<u8> {
-    match read_row(rt, name) {
-        Ok(row) => text_or_none(alloc, judged(rt, alloc, name, row)),
-        Err(_) => text_or_none(alloc, line(alloc, name, " cannot be read")),
+) -> Printer {
+    let mut report = Printer::new(rt.alloc());
+    let mut files = Vec::new(rt.alloc());
+    match read_files(rt, name, &mut files) {
+        Ok(()) => put_row(rt, &mut report, name, files.as_slice()),
+        Err(AllocError) => report.fail(),
     }
+    drop(files);
+    report
 }
 
-// Where memory does not suffice for the text, there is none, and so no name.
-fn text_or_none(alloc: Global, text: Result<Vec<u8>, AllocError>) -> Vec<u8> {
-    match text {
-        Ok(text) => text,
-        Err(AllocError) => Vec::new(alloc),
-    }
-}
-
-fn line(alloc: Global, name: &str, what: &str) -> Result<Vec<u8>, AllocError>
-    ensures { IfOk result (λ text. text.items ≡ name.now ++ what.now ++ codes "\n") }
-{
-    let mut text = Vec::from_slice(alloc, name.as_bytes())?;
-    text.extend_from_slice(what.as_bytes())?;
-    text.push(b'\n')?;
-    Ok(text)
-}
-
-fn judged<R: Files + AllocGlobal + Threads + Wait + Clock + Sync>(
+fn put_row<R: Files + AllocGlobal + Threads + Wait + Clock + Sync>(
     rt: &R,
-    alloc: Global,
+    report: &mut Printer,
     name: &str,
-    row: Row,
-) -> Result<Vec<u8>, AllocError> {
-    let Row {
-        words,
-        input,
-        wanted,
-    } = row;
-    match outcome(rt, alloc, name, words, input) {
-        Ok(found) => {
-            let text = compared(alloc, name, &wanted, &found);
-            drop(found);
-            drop(wanted);
-            text
-        }
-        Err(error) => {
-            drop(wanted);
-            Err(error)
-        }
-    }
-}
-
-// What the row's input comes to, by the ending of its name.
-fn outcome<R: Files + AllocGlobal + Threads + Wait + Clock + Sync>(
-    rt: &R,
-    alloc: Global,
-    name: &str,
-    words: Vec<String>,
-    input: Vec<u8>,
-) -> Result<Outcome, AllocError> {
-    let Some((_, kind)) = name.rsplit_once('.') else {
-        let found = run_row(rt, alloc, words.as_slice(), input);
-        drop(words);
-        return found;
+    files: &[Vec<u8>],
+) {
+    let [input, output, words, status] = files else {
+        return report.fail();
     };
-    let output = output_of(rt, alloc, kind, input.as_slice());
-    drop(input);
-    drop(words);
-    Ok(Outcome {
-        output: output?,
-        status: 0,
-    })
+    let mut found = Printer::new(rt.alloc());
+    put_found(rt, &mut found, name, words.as_slice(), input.as_slice());
+    match found.text() {
+        Some(text) => put_compared(report, name, output.as_slice(), status.as_slice(), text),
+        None => report.fail(),
+    }
+    drop(found);
 }
 
-fn output_of<R: Files + AllocGlobal + Threads + Wait + Clock + Sync>(
+// Puts what the row's input comes to, by the ending of its name, and the exit status.
+fn put_found<R: Files + AllocGlobal + Threads + Wait + Clock + Sync>(
     rt: &R,
-    alloc: Global,
-    kind: &str,
-    input: &[u8],
-) -> Result<Vec<u8>, AllocError> {
-    match kind {
-        "lines" => lines_row(alloc, input),
-        "faults" => faults_row(alloc, input),
-        "answers" => answers_row(alloc, input),
-        "blocks" => blocks_row(alloc, input),
-        "asked" => command_lines_row(alloc, input),
-        "changes" => changes_row(rt, alloc, input),
-        _ => Vec::from_slice(alloc, b"no kind of row"),
-    }
-}
-
-// What is printed of a row that is to come to the one and came to the other.
-fn compared(
-    alloc: Global,
+    found: &mut Printer,
     name: &str,
-    wanted: &Outcome,
-    found: &Outcome,
-) -> Result<Vec<u8>, AllocError> {
-    if found.status == wanted.status && found.output.as_slice() == wanted.output.as_slice() {
-        return line(alloc, name, "");
-    }
-    let mut printer = Printer::new(alloc);
-    printer.owned(line(alloc, name, " differs"));
-    put_outcome(&mut printer, "wanted", wanted);
-    put_outcome(&mut printer, "found", found);
-    printer.into_text()
+    words: &[u8],
+    input: &[u8],
+) {
+    let code = match name.rsplit_once('.') {
+        Some((_, kind)) => {
+            put_parts(rt, found, kind, input);
+            0
+        }
+        None => put_run(rt, found, words, input),
+    };
+    found.numbered(STATUS, u64::from(code));
+    found.bytes(b"\n");
 }
 
-// An outcome below its heading. A LF follows what does not end in one.
-fn put_outcome(printer: &mut Printer, what: &str, outcome: &Outcome) {
-    put_heading(printer, what, outcome);
-    printer.bytes(outcome.output.as_slice());
-    if !outcome.output.ends_with(b"\n") {
-        printer.bytes(b"\n");
+// Puts the name, and where the text that was found is not that of this output and this status, both texts.
+fn put_compared(report: &mut Printer, name: &str, output: &[u8], status: &[u8], found: &[u8]) {
+    report.bytes(name.as_bytes());
+    if !is_found(output, status, found) {
+        report.bytes(b" differs\n--- wanted:\n");
+        report.bytes(output);
+        report.bytes(STATUS);
+        report.bytes(status);
+        report.bytes(b"--- found:\n");
+        report.bytes(found);
     }
+    report.bytes(b"\n");
 }
 
-fn put_heading(printer: &mut Printer, what: &str, outcome: &Outcome) {
-    printer.bytes(b"--- ");
-    printer.bytes(what.as_bytes());
-    printer.bytes(b": ");
-    printer.number(outcome.output.len() as u64);
-    printer.bytes(b" bytes, status ");
-    printer.number(u64::from(outcome.status));
-    printer.bytes(b"\n");
+fn is_found(output: &[u8], status: &[u8], found: &[u8]) -> bool {
+    match found.strip_prefix(output) {
+        Some(rest) => rest.strip_prefix(STATUS) == Some(status),
+        None => false,
+    }
 }

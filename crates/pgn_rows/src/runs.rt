@@ -1,72 +1,83 @@
-use crate::row::Outcome;
-use pgn_base::{Seed, Sink, Source};
-use pgn_memory::{MemSink, MemSource};
+ghost use Rattle.std.specs.Prelude.{None};
+
+use crate::printer::Printer;
+use crate::row::push_lines;
+use pgn_base::{Failed, Seed, Sink, Source};
 use pgn_run::{Status, run_notify};
-use std::alloc::{AllocError, Global};
+use std::io::Read;
 use std::sync::Wait;
 use std::thread::Threads;
 use std::time::Clock;
 
-// The room for what a run writes, and how many bytes a read or a write moves at most.
-const ROOM: usize = 1 << 20;
-
-/// What the program comes to over these words and this input.
-pub fn run_row<R: Threads + Wait + Clock + Sync>(
-    rt: &R,
-    alloc: Global,
-    words: &[String],
-    input: Vec<u8>,
-) -> Result<Outcome, AllocError> {
-    let mut source = MemSource::new(input, Vec::new(alloc), ROOM);
-    let outcome = run_over(rt, alloc, words, &mut source);
-    drop(source);
-    outcome
+// An input that is read.
+#[derive(Drop)]
+struct Input<'a> {
+    rest: &'a [u8],
 }
 
-fn run_over<R: Threads + Wait + Clock + Sync>(
-    rt: &R,
-    alloc: Global,
-    words: &[String],
-    source: &mut MemSource,
-) -> Result<Outcome, AllocError> {
-    let mut sink = MemSink::new(alloc, ROOM, Vec::new(alloc), ROOM)?;
-    let outcome = outcome_of(rt, alloc, words, source, &mut sink);
-    drop(sink);
-    outcome
-}
+impl Source for Input<'_> {
+    ghost left = { λ source. None };
 
-fn outcome_of<R: Threads + Wait + Clock + Sync>(
-    rt: &R,
-    alloc: Global,
-    words: &[String],
-    source: &mut MemSource,
-    sink: &mut MemSink,
-) -> Result<Outcome, AllocError> {
-    let words = borrowed(alloc, words)?;
-    let status = status_of(rt, alloc, words.as_slice(), source, sink);
-    drop(words);
-    let output = Vec::from_slice(alloc, sink.held())?;
-    Ok(Outcome {
-        output,
-        status: status.code(),
-    })
-}
+    ghost faults = { λ source. 0 };
 
-fn borrowed(alloc: Global, words: &[String]) -> Result<Vec<&str>, AllocError> {
-    let mut texts = Vec::new(alloc);
-    for word in words {
-        texts.push(word.as_str())?;
+    fn read(&mut self, buf: &mut [u8]) -> Result<usize, Failed> {
+        match self.rest.read(buf) {
+            Ok(count) => Ok(count),
+            Err(error) => {
+                drop(error);
+                Ok(0)
+            }
+        }
     }
-    Ok(texts)
 }
 
-// How a run ends, over any source and sink: so no clause of the call has to be computed for those in memory.
-fn status_of<S: Source, K: Sink + Send, R: Threads + Wait + Clock + Sync>(
+impl Sink for Printer {
+    ghost held = { λ sink. None };
+
+    ghost faults = { λ sink. 0 };
+
+    fn write(&mut self, piece: &[u8]) -> Result<usize, Failed> {
+        self.bytes(piece);
+        Ok(piece.len())
+    }
+}
+
+/// Puts what the program writes over this input and the words of these lines. The exit status.
+pub fn put_run<R: AllocGlobal + Threads + Wait + Clock + Sync>(
     rt: &R,
-    alloc: Global,
+    printer: &mut Printer,
+    words: &[u8],
+    input: &[u8],
+) -> u8 {
+    let mut all = Vec::new(rt.alloc());
+    let code = match push_lines(&mut all, words) {
+        Some(()) => put_run_of(rt, printer, all.as_slice(), input),
+        None => {
+            printer.fail();
+            0
+        }
+    };
+    drop(all);
+    code
+}
+
+/// The same over these words.
+pub fn put_run_of<R: AllocGlobal + Threads + Wait + Clock + Sync>(
+    rt: &R,
+    printer: &mut Printer,
+    words: &[&str],
+    input: &[u8],
+) -> u8 {
+    let mut source = Input { rest: input };
+    status_of(rt, words, &mut source, printer).code()
+}
+
+// How a run ends, over any source and sink: so no clause of the call has to be computed for these.
+fn status_of<S: Source, K: Sink + Send, R: AllocGlobal + Threads + Wait + Clock + Sync>(
+    rt: &R,
     words: &[&str],
     source: &mut S,
     sink: &mut K,
 ) -> Status {
-    run_notify(rt, alloc, Seed::fixed(), words, source, sink)
+    run_notify(rt, rt.alloc(), Seed::fixed(), words, source, sink)
 }

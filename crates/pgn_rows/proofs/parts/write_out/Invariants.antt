@@ -1,5 +1,5 @@
 use Rattle.std.proofs.Common.{length}
-use Rattle.pgn_rows.proofs.cases.parts.Given as goal
+use Rattle.pgn_rows.proofs.parts.write_out.Given as goal
 
 abbrev pub decreases-loop-at : goal.decreases-loop-at
 decreases-loop-at l = length l.rest

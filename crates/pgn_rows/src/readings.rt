@@ -1,0 +1,38 @@
+use crate::printer::Printer;
+use pgn_base::{Command, LINE_BYTES_MAX, Seed};
+use pgn_command::parse_line;
+use pgn_scenario::read_scenario;
+use std::alloc::{AllocError, Global};
+
+/// Puts what a line of SQL reads as.
+pub fn put_line(printer: &mut Printer, alloc: Global, line: &str) {
+    match command_of(alloc, line) {
+        Some(command) => {
+            printer.command(&command);
+            drop(command);
+        }
+        None => printer.fail(),
+    }
+    printer.bytes(b"\n");
+}
+
+/// The command that a line reads as, unless it can be no line of an input, or memory does not suffice.
+pub fn command_of(alloc: Global, line: &str) -> Option<Command> {
+    if line.len() > LINE_BYTES_MAX || line.as_bytes().contains(&0) {
+        return None;
+    }
+    parse_line(alloc, line).ok()
+}
+
+/// Puts what a case reads as: its fault or its scenario.
+pub fn put_scenario(printer: &mut Printer, alloc: Global, case: &[u8]) {
+    match read_scenario(alloc, Seed::fixed(), case) {
+        Ok(Ok(scenario)) => {
+            printer.scenario(&scenario);
+            drop(scenario);
+        }
+        Ok(Err(fault)) => printer.fault(fault),
+        Err(AllocError) => printer.fail(),
+    }
+    printer.bytes(b"\n=====\n");
+}
