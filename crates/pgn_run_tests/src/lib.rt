@@ -1,5 +1,5 @@
-//! What is tested of a whole run and is no row of text: sources and sinks that fail, and runs of which more than one text is right. There
-//! is nothing here but tests.
+//! What is tested of a whole run and is no row of text: sources and sinks that fail, clients that wait, who is woken, and what takes many
+//! notifications. There is nothing here but tests.
 #![tactic(auto)]
 
 #[cfg(test)]

@@ -1,93 +1,35 @@
-use super::{AMPLE, CROSSING_FLAGS, Outside, SELF_NOTIFY, comes_of, joined};
+use super::{Bytes, sink_of, status_of};
 use pgn_base::INPUT_BYTES_MAX;
-use std::alloc::{AllocError, Global};
-use std::process::Abort;
+use pgn_language::ScenarioFault;
+use pgn_run::Status;
+use std::alloc::Global;
 use std::sync::Wait;
-use std::test::Fail;
 use std::thread::Threads;
 use std::time::Clock;
 
-// One byte more than an input may have.
-#[test]
-fn too_large(rt: HostRuntime) -> Result<(), Fail> {
-    let input = vec![in rt.alloc(); b'\n'; INPUT_BYTES_MAX + 1]?;
-    let found = comes_of(&rt, rt.alloc(), &input, &AMPLE)?;
-    assert_eq!(rt; found.as_str(), "BadScenario(TooLarge): ");
-    Ok(())
-}
-
-const SELF_NOTIFY_OUTPUT: &str = "\
-journal 1
-xid 3 session 1 commit 1
-  \"c\", 'x'
-session 1 a db 1 pid 1001
-> LISTEN c
-+enlist 3 3
-LISTEN
-> NOTIFY c, 'x'
-+publish 3
-NOTIFY
-+read 3 4
-  3 1001 \"c\", 'x'
-end mark 4
+// Each session waits for the other one.
+const CROSSING_FLAGS: &[u8] = b"\
+\\session a 1
+LISTEN c
+BEGIN
+\\await b1
+NOTIFY c, 'from a'
+COMMIT
+BEGIN
+\\signal a2
+\\await b2
+COMMIT
+\\session b 1
+LISTEN c
+BEGIN
+\\signal b1
+\\await a2
+COMMIT
+NOTIFY c, 'from b'
+\\signal b2
 ";
 
-// The side that fails, how the run ends, and what was written: a front of the text.
-const SIDES: [(Outside<'static>, &str); 6] = [
-    (
-        Outside {
-            read_fails: &[1],
-            ..AMPLE
-        },
-        "ReadFault: ",
-    ),
-    // The last read of three is the one that finds the end.
-    (
-        Outside {
-            read_fails: &[3],
-            most: 20,
-            ..AMPLE
-        },
-        "ReadFault: ",
-    ),
-    (
-        Outside {
-            write_fails: &[1],
-            ..AMPLE
-        },
-        "WriteFault: ",
-    ),
-    (
-        Outside {
-            write_fails: &[2],
-            most: 4,
-            ..AMPLE
-        },
-        "WriteFault: jour",
-    ),
-    (Outside { room: 10, ..AMPLE }, "WriteFault: journal 1\n"),
-    // Both work byte by byte.
-    (Outside { most: 1, ..AMPLE }, SELF_NOTIFY_OUTPUT),
-];
-
-fn assert_sides<R: Threads + Wait + Clock + Sync + Abort>(
-    rt: &R,
-    alloc: Global,
-    sides: &[(Outside<'_>, &str)],
-) -> Result<(), Fail> {
-    for (outside, want) in sides {
-        let found = comes_of(rt, alloc, SELF_NOTIFY.as_bytes(), outside)?;
-        assert_eq!(rt; found.as_str(), *want);
-    }
-    Ok(())
-}
-
-#[test]
-fn names_the_side_that_failed(rt: HostRuntime) -> Result<(), Fail> {
-    assert_sides(&rt, rt.alloc(), &SIDES)
-}
-
-const CROSSING_FLAGS_OUTPUT: &str = "\
+const CROSSING_FLAGS_OUTPUT: &[u8] = b"\
 journal 2
 xid 3 session 1 commit 1
   \"c\", 'from a'
@@ -143,184 +85,84 @@ NOTIFY
 end mark 5
 ";
 
-// What comes of a source that gives a byte at a time, and whose call of this number fails.
-fn read_until<R: Threads + Wait + Clock + Sync>(
+fn ending_of(status: Status) -> &'static str {
+    match status {
+        Status::Done => "done",
+        Status::ReadFault => "read",
+        Status::WriteFault => "write",
+        Status::BadScenario(ScenarioFault::TooLarge) => "too large",
+        _ => "otherwise",
+    }
+}
+
+// Whether a run ends so, and has written this, of which the read behind so many and the write of this number fail. A write takes seven bytes.
+fn ends<R: Threads + Wait + Clock + Sync>(
     rt: &R,
     alloc: Global,
-    input: &str,
-    call: u64,
-) -> Result<String, Fail> {
-    let outside = Outside {
-        read_fails: &[call],
-        most: 1,
-        ..AMPLE
+    input: &[u8],
+    fails: (usize, u64),
+    end: (&str, &[u8]),
+) -> bool {
+    let Ok(mut sink) = sink_of(alloc, fails.1, 7) else {
+        return false;
     };
-    comes_of(rt, alloc, input.as_bytes(), &outside)
-}
-
-// Asserts that each call fails in turn. A call for each byte is followed by one that finds the end.
-fn assert_reads<R: Threads + Wait + Clock + Sync + Abort>(
-    rt: &R,
-    alloc: Global,
-    input: &str,
-    output: &str,
-) -> Result<(), Fail> {
-    let calls = (input.len() as u64).saturating_add(1);
-    for call in 1..=calls {
-        let found = read_until(rt, alloc, input, call)?;
-        assert_eq!(rt; found.as_str(), "ReadFault: ");
-    }
-    let found = read_until(rt, alloc, input, calls.saturating_add(1))?;
-    assert_eq!(rt; found.as_str(), output);
-    Ok(())
-}
-
-#[test]
-fn each_read_fails_in_turn(rt: HostRuntime) -> Result<(), Fail> {
-    assert_reads(&rt, rt.alloc(), CROSSING_FLAGS, CROSSING_FLAGS_OUTPUT)
-}
-
-// What is to come of a sink that takes seven bytes at a time, where so many calls do not fail and the next one, if there is one, does.
-fn written_before(alloc: Global, output: &str, calls: usize) -> Result<String, Fail> {
-    let bytes = calls.saturating_mul(7);
-    if bytes >= output.len() {
-        return Ok(String::from_str(alloc, output)?);
-    }
-    let written = output.get(..bytes).ok_or("no ASCII")?;
-    Ok(joined(alloc, "WriteFault: ", written)?)
-}
-
-// What comes of a sink that takes seven bytes at a time, and whose call of this number fails.
-fn write_until<R: Threads + Wait + Clock + Sync>(
-    rt: &R,
-    alloc: Global,
-    input: &str,
-    call: u64,
-) -> Result<String, Fail> {
-    let outside = Outside {
-        write_fails: &[call],
-        most: 7,
-        ..AMPLE
+    let mut source = Bytes {
+        rest: input,
+        reads: fails.0,
+        faults: 0,
     };
-    comes_of(rt, alloc, input.as_bytes(), &outside)
+    let status = status_of(rt, alloc, &["run"], &mut source, &mut sink);
+    let right = ending_of(status) == end.0 && sink.held() == end.1;
+    drop(sink);
+    right
 }
 
-fn is_cut_after<R: Threads + Wait + Clock + Sync>(
-    rt: &R,
-    alloc: Global,
-    input: &str,
-    output: &str,
-    calls: usize,
-) -> Result<bool, Fail> {
-    let found = write_until(rt, alloc, input, (calls as u64).saturating_add(1))?;
-    let want = written_before(alloc, output, calls)?;
-    Ok(found == want)
-}
-
-// Asserts that each call fails in turn, and then none.
-fn assert_writes<R: Threads + Wait + Clock + Sync + Abort>(
-    rt: &R,
-    alloc: Global,
-    input: &str,
-    output: &str,
-) -> Result<(), Fail> {
-    for calls in 0..=output.len() / 7 + 1 {
-        assert!(rt;
-            is_cut_after(rt, alloc, input, output, calls)?,
-            "after {calls}"
-        );
+// A read for each byte is followed by one that finds the end.
+#[test]
+fn each_read_fails_in_turn(rt: HostRuntime) {
+    for reads in 0..CROSSING_FLAGS.len() + 2 {
+        let end = if reads <= CROSSING_FLAGS.len() {
+            ("read", b"".as_slice())
+        } else {
+            ("done", CROSSING_FLAGS_OUTPUT)
+        };
+        assert!(rt; ends(&rt, rt.alloc(), CROSSING_FLAGS, (reads, 0), end));
     }
-    Ok(())
+}
+
+// How a run ends of which the write behind so many fails, if there is one, and what it has written.
+fn cut_behind(writes: usize) -> (&'static str, &'static [u8]) {
+    match CROSSING_FLAGS_OUTPUT.get(..writes.saturating_mul(7)) {
+        Some(written) if written != CROSSING_FLAGS_OUTPUT => ("write", written),
+        _ => ("done", CROSSING_FLAGS_OUTPUT),
+    }
 }
 
 #[test]
-fn each_write_fails_in_turn(rt: HostRuntime) -> Result<(), Fail> {
-    assert_writes(&rt, rt.alloc(), CROSSING_FLAGS, CROSSING_FLAGS_OUTPUT)
-}
-
-const QUOTES: &str = "\
-\\session a 1
-LISTEN \"a\"\"\"\"b\"
-NOTIFY \"a\"\"\"\"b\", '''it''s'''
-";
-
-const QUOTES_OUTPUT: &str = "\
-journal 1
-xid 3 session 1 commit 1
-  \"a\"\"\"\"b\", '''it''s'''
-session 1 a db 1 pid 1001
-> LISTEN \"a\"\"\"\"b\"
-+enlist 3 3
-LISTEN
-> NOTIFY \"a\"\"\"\"b\", '''it''s'''
-+publish 3
-NOTIFY
-+read 3 4
-  3 1001 \"a\"\"\"\"b\", '''it''s'''
-end mark 4
-";
-
-// Each quote is written twice, and a write takes a part of most pieces.
-#[test]
-fn quotes_in_parts(rt: HostRuntime) -> Result<(), Fail> {
-    let outside = Outside { most: 7, ..AMPLE };
-    let found = comes_of(&rt, rt.alloc(), QUOTES.as_bytes(), &outside)?;
-    assert_eq!(rt; found.as_str(), QUOTES_OUTPUT);
-    Ok(())
-}
-
-// Puts a command whose line has so many bytes, at least nine, behind a text.
-fn push_long_line(text: &mut String, bytes: usize) -> Result<(), AllocError> {
-    text.push_str("UNLISTEN")?;
-    for _ in 9..bytes {
-        text.push(' ')?;
+fn each_write_fails_in_turn(rt: HostRuntime) {
+    for writes in 0..CROSSING_FLAGS_OUTPUT.len() / 7 + 2 {
+        let fails = (usize::MAX, (writes as u64).saturating_add(1));
+        assert!(rt; ends(&rt, rt.alloc(), CROSSING_FLAGS, fails, cut_behind(writes)));
     }
-    text.push('*')
 }
 
-// Puts lines of so many bytes between two texts each behind others.
-fn push_lines(
-    text: &mut String,
-    front: &str,
-    sizes: &[usize],
-    end: &str,
-) -> Result<(), AllocError> {
-    for bytes in sizes {
-        text.push_str(front)?;
-        push_long_line(text, *bytes)?;
-        text.push_str(end)?;
-    }
-    Ok(())
-}
-
-// A script of lines of so many bytes.
-fn long_lines(alloc: Global, sizes: &[usize]) -> Result<String, AllocError> {
-    let mut text = String::from_str(alloc, "\\session a 1\n")?;
-    push_lines(&mut text, "", sizes, "\n")?;
-    Ok(text)
-}
-
-// What it shows.
-fn long_output(alloc: Global, sizes: &[usize]) -> Result<String, AllocError> {
-    let mut text = String::from_str(alloc, "journal 0\nsession 1 a db 1 pid 1001\n")?;
-    push_lines(&mut text, "> ", sizes, "\nUNLISTEN\n")?;
-    text.push_str("end\n")?;
-    Ok(text)
-}
-
-// What is kept back comes to 8,192 bytes with the first line. Of the next ones that many bytes, one less and more are left over
-// once it is full.
-#[test]
-fn a_text_larger_than_the_buffer(rt: HostRuntime) -> Result<(), Fail> {
-    let alloc = rt.alloc();
-    let sizes = [8154, 16_372, 16_371, 20_000, 12];
-    let input = long_lines(alloc, &sizes)?;
-    let outside = Outside {
-        most: 3000,
-        ..AMPLE
+// Whether one byte more than an input may have is refused.
+fn is_too_large<R: Threads + Wait + Clock + Sync>(rt: &R, alloc: Global) -> bool {
+    let Ok(input) = vec![in alloc; b'\n'; INPUT_BYTES_MAX + 1] else {
+        return false;
     };
-    let found = comes_of(&rt, alloc, input.as_bytes(), &outside)?;
+    let right = ends(
+        rt,
+        alloc,
+        input.as_slice(),
+        (usize::MAX, 0),
+        ("too large", b""),
+    );
     drop(input);
-    assert!(rt; found == long_output(alloc, &sizes)?);
-    Ok(())
+    right
+}
+
+#[test]
+fn too_large(rt: HostRuntime) {
+    assert!(rt; is_too_large(&rt, rt.alloc()));
 }

@@ -1,2 +1,0 @@
--- who may ask a seat, and who may hear
-pub mod Rights

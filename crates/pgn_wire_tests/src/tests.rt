@@ -1,3 +1,0 @@
-mod asking;
-mod serving;
-mod waiting;
