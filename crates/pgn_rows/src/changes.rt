@@ -16,20 +16,16 @@ const LEGAL: &[u8] = b"legal\n";
 // The changes of a text by its line of a number: that line is left out, stands twice, or stands behind the next one.
 const CHANGES: [&str; 3] = ["without", "twice", "behind"];
 
-/// Puts what `check` says of the output of a row that a line names, and the changes of that by one line that are legal too, though they
-/// change the text. Where the line has a change and a line's number behind the name, it is what `check` says of the output with this
-/// change.
+/// Puts what `check` says of the output of the row of this name, and the changes of that by one line that are legal too, though they change
+/// the text.
 pub fn put_changes<R: Files + AllocGlobal + Threads + Wait + Clock + Sync>(
     rt: &R,
     printer: &mut Printer,
-    asked: &str,
+    name: &str,
 ) {
-    let (name, change) = asked.split_once(' ').unwrap_or((asked, ""));
-    printer.bytes(asked.as_bytes());
-    printer.bytes(b": ");
     let mut files = Vec::new(rt.alloc());
     match read_files(rt, name, &mut files) {
-        Ok(()) => put_checked(rt, printer, name, change, files.as_slice()),
+        Ok(()) => put_checked(rt, printer, name, files.as_slice()),
         Err(AllocError) => printer.fail(),
     }
     drop(files);
@@ -39,7 +35,6 @@ fn put_checked<R: AllocGlobal + Threads + Wait + Clock + Sync>(
     rt: &R,
     printer: &mut Printer,
     name: &str,
-    change: &str,
     files: &[Vec<u8>],
 ) {
     let [input, output, of_run, _] = files else {
@@ -55,7 +50,7 @@ fn put_checked<R: AllocGlobal + Threads + Wait + Clock + Sync>(
                 scenario: input.as_slice(),
                 lines: lines.as_slice(),
             };
-            checked.put(printer, name, change);
+            checked.put(printer, name);
         }
         None => printer.fail(),
     }
@@ -86,20 +81,10 @@ struct Checked<'a, R> {
 }
 
 impl<R: AllocGlobal + Threads + Wait + Clock + Sync> Checked<'_, R> {
-    fn put(&self, printer: &mut Printer, name: &str, change: &str) {
-        match change.split_once(' ') {
-            Some((what, number)) => {
-                let number = number.parse::<usize>().unwrap_or(0);
-                self.put_answer(printer, what, number.saturating_sub(1));
-            }
-            None => {
-                self.put_answer(printer, "", 0);
-                self.put_all_legal(printer, name);
-            }
-        }
-    }
-
-    fn put_all_legal(&self, printer: &mut Printer, name: &str) {
+    fn put(&self, printer: &mut Printer, name: &str) {
+        printer.bytes(name.as_bytes());
+        printer.bytes(b": ");
+        self.put_answer(printer, "", 0);
         for at in 0..self.lines.len() {
             self.put_legal_at(printer, name, at);
         }

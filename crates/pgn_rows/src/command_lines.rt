@@ -1,27 +1,18 @@
 use crate::printer::Printer;
+use crate::row::push_lines;
 use pgn_base::Format;
 use pgn_options::{Asked, WordsFault, read_words};
-use std::alloc::{AllocError, Global};
+use std::alloc::Global;
 
-/// Puts what the words of a line ask for. A space stands between two words; a `.` alone on its line stands for no word.
-pub fn put_asked(printer: &mut Printer, alloc: Global, line: &str) {
+/// Puts what the words of a case ask for, a word a line.
+pub fn put_asked(printer: &mut Printer, alloc: Global, case: &[u8]) {
     let mut words = Vec::new(alloc);
-    match push_words(&mut words, line) {
-        Ok(()) => put_reading(printer, alloc, words.as_slice()),
-        Err(AllocError) => printer.fail(),
+    match push_lines(&mut words, case) {
+        Some(()) => put_reading(printer, alloc, words.as_slice()),
+        None => printer.fail(),
     }
     drop(words);
     printer.bytes(b"\n");
-}
-
-fn push_words<'a>(words: &mut Vec<&'a str>, line: &'a str) -> Result<(), AllocError> {
-    if line == "." {
-        return Ok(());
-    }
-    for word in line.split(' ') {
-        words.push(word)?;
-    }
-    Ok(())
 }
 
 fn put_reading(printer: &mut Printer, alloc: Global, words: &[&str]) {

@@ -7,11 +7,11 @@
 //! - a plain name: a run of the program, of these words over this input;
 //! - `.lines`: each line of the input is a line of SQL, and the output has what it reads as, a line each;
 //! - `.faults`: the output has for each case of the input its fault, or the scenario that it reads as;
-//! - `.asked`: each line of the input has the words of a command line, a space between two, and the output has what they ask for;
+//! - `.asked`: each case of the input has the words of a command line, a word a line, and the output has what they ask for, a line each;
 //! - `.blocks`: the lines of a case are told to one block, one after another, and the output has the answer to each;
 //! - `.checks`: each case of the input is a scenario with an output, and the output of the row has what `check` says of it, a line each;
-//! - `.changes`: each line of the input names a row that is a run, and may name a change of its output by one line; the output has what
-//!   `check` says of it.
+//! - `.changes`: each line of the input names a row that is a run; the output has what `check` says of its output, and each change of that
+//!   by one line that is legal too.
 //!
 //! After each case of an input a LF, `=====` and a LF follow, which are no part of it: a case that ends in a LF has an empty line
 //! before its `=====`. A character `…` in a line of SQL or in a case, and the byte after it, stand for 65,536 of that byte, as many

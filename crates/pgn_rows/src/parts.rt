@@ -8,7 +8,7 @@ use crate::readings::{put_line, put_scenario};
 use crate::runs::put_run_of;
 use memchr::memmem;
 use pgn_base::LINE_BYTES_MAX;
-use std::alloc::{AllocError, Global};
+use std::alloc::AllocError;
 use std::fs::Files;
 use std::str;
 use std::sync::Wait;
@@ -65,7 +65,7 @@ fn put_whole<R: Files + AllocGlobal + Threads + Wait + Clock + Sync>(
     text: &[u8],
 ) {
     match kind {
-        "faults" | "blocks" | "checks" => put_each(rt, printer, kind, text, END_OF_CASE),
+        "faults" | "blocks" | "asked" | "checks" => put_each(rt, printer, kind, text, END_OF_CASE),
         _ => put_each(rt, printer, kind, text, b"\n"),
     }
 }
@@ -94,29 +94,15 @@ fn put_part<R: Files + AllocGlobal + Threads + Wait + Clock + Sync>(
     kind: &str,
     part: &[u8],
 ) {
-    match kind {
-        "faults" => put_scenario(printer, rt.alloc(), part),
-        "checks" => {
+    match (kind, str::from_utf8(part)) {
+        ("faults", _) => put_scenario(printer, rt.alloc(), part),
+        ("checks", _) => {
             put_run_of(rt, printer, &["check"], part);
         }
-        _ => match str::from_utf8(part) {
-            Ok(text) => put_text(rt, printer, kind, text),
-            Err(_) => printer.bytes(b"no text\n"),
-        },
-    }
-}
-
-fn put_text<R: Files + AllocGlobal + Threads + Wait + Clock + Sync>(
-    rt: &R,
-    printer: &mut Printer,
-    kind: &str,
-    text: &str,
-) {
-    match kind {
-        "lines" => put_line(printer, rt.alloc(), text),
-        "blocks" => put_block(printer, rt.alloc(), text),
-        "asked" => put_asked(printer, rt.alloc(), text),
-        "changes" => put_changes(rt, printer, text),
-        _ => printer.bytes(b"no kind of row\n"),
+        ("asked", _) => put_asked(printer, rt.alloc(), part),
+        ("lines", Ok(line)) => put_line(printer, rt.alloc(), line),
+        ("blocks", Ok(case)) => put_block(printer, rt.alloc(), case),
+        ("changes", Ok(name)) => put_changes(rt, printer, name),
+        _ => printer.bytes(b"no kind of row, or no text\n"),
     }
 }
