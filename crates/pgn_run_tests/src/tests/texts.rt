@@ -128,10 +128,8 @@ SELECT pg_notify('d', repeat('x', 7999))
 
 const FULL_WANTED: Wanted<'static> = (
     &[
-        "> \\await full\n",
         "+read 3 6\n",
         "> \\signal l2\n",
-        "> \\await full\n",
         "+read 3 6\n",
         "> \\signal o2\n",
         "+full 5 queued 0 head 2 floor 3 page 0 holder 1\n",
@@ -140,7 +138,8 @@ const FULL_WANTED: Wanted<'static> = (
     &[("+read 3 6\n", 2), ("+read 3 6\n  ", 0)],
 );
 
-// The third notification meets a full queue, and wakes both listeners: they read while they wait, and receive nothing.
+// The third notification meets a full queue, and wakes both listeners: they read, and receive nothing. Whether one of them waits already when
+// it is woken is free.
 #[test]
 fn a_full_queue_wakes_all(rt: HostRuntime) {
     assert!(rt; shows(&rt, rt.alloc(), &["run", "--pages", "2"], FULL, FULL_WANTED));
