@@ -70,7 +70,7 @@ fn is_written_meanwhile<R: Threads + Wait + Clock + Sync>(rt: &R, alloc: Global)
         first: None,
         last: 0,
     };
-    let _status = status_of::<1_000_000, Timed<'_, R>, R>(rt, alloc, SELF_NOTIFY, None, &mut sink);
+    let _status = status_of::<10_000_000, Timed<'_, R>, R>(rt, alloc, SELF_NOTIFY, None, &mut sink);
     let (first, last) = (sink.first, sink.last);
     drop(sink);
     match first {
