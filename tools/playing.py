@@ -4,21 +4,39 @@ import resource
 import select
 import signal
 import socket
-import struct
 import subprocess
 import time
 
+DATA = f"{os.path.dirname(os.path.dirname(os.path.realpath(__file__)))}/crates/pgn_rows/data"
 # How long a run or an answer is waited for, in seconds: far more than it takes on a machine that is busy.
 PATIENCE = 60
+# How much of what was found and of what is right is told.
+TOLD = 2000
 
 
 class Wrong(Exception):
     """What a case found otherwise."""
 
 
+def file_of(name, ending, otherwise=None):
+    """What the row of this name has in its file with this ending, which may be missing where there is something otherwise."""
+    try:
+        with open(f"{DATA}/{name}.{ending}", "rb") as it:
+            return it.read()
+    except FileNotFoundError:
+        if otherwise is None:
+            raise Wrong(f"{name} has no file {name}.{ending}") from None
+        return otherwise
+
+
+def told(value):
+    text = repr(value)
+    return text if len(text) <= TOLD else f"{text[:TOLD]} and {len(text) - TOLD} more"
+
+
 def same(found, wanted, what):
     if found != wanted:
-        raise Wrong(f"{what}: {found!r}, where {wanted!r} is right")
+        raise Wrong(f"{what}: {told(found)}, where {told(wanted)} is right")
 
 
 def run(program, words, given=b"", **how):
@@ -42,21 +60,32 @@ def run_into(program, words, given, room):
 
 def run_from(program, words, given):
     """The same where the input fails behind the bytes that it gives: a connection that is reset."""
-    with socket.create_server(("127.0.0.1", 0)) as server, socket.create_connection(server.getsockname()) as near:
-        far = server.accept()[0]
+    near, far = socket.socketpair()
+    with near, far:
+        # What it has not read when it closes makes it a reset; nothing is lost of what it sent before.
+        near.sendall(b"unread")
         far.sendall(given)
-        # Nothing is lost of what came before the reset.
-        far.setsockopt(socket.SOL_SOCKET, socket.SO_LINGER, struct.pack("ii", 1, 0))
         far.close()
         ran = subprocess.run([program, *words], stdin=near, stdout=subprocess.PIPE, stderr=subprocess.PIPE, timeout=PATIENCE)
         return ran.returncode, ran.stdout, ran.stderr
 
 
+def sleeps_of(process):
+    """Of each thread of a process how often it has gone to sleep."""
+    sleeps = {}
+    for thread in os.listdir(f"/proc/{process.pid}/task"):
+        with open(f"/proc/{process.pid}/task/{thread}/status") as it:
+            sleeps[thread] = next(int(line.split()[1]) for line in it if line.startswith("voluntary_ctxt_switches:"))
+    return sleeps
+
+
 class Talk:
-    """A run that is told more only once it has answered. What it answers is read byte by byte, each time within PATIENCE."""
+    """A run that is told more only once it has answered. Each call of it ends within PATIENCE, or raises Wrong."""
 
     def __init__(self, program, words):
         self.ran = subprocess.Popen([program, *words], stdin=subprocess.PIPE, stdout=subprocess.PIPE, stderr=subprocess.PIPE, bufsize=0)
+        # What was read and is not yet heard.
+        self.kept = b""
 
     def __enter__(self):
         return self
@@ -69,23 +98,35 @@ class Talk:
             it.close()
 
     def tell(self, given):
+        until = time.monotonic() + PATIENCE
         while given:
-            given = given[self.ran.stdin.write(given):]
+            if not select.select([], [self.ran.stdin], [], max(0, until - time.monotonic()))[1]:
+                raise Wrong(f"{told(given)} is not read in {PATIENCE} seconds")
+            # So much is taken at once.
+            given = given[self.ran.stdin.write(given[:select.PIPE_BUF]):]
 
     def hear(self, count):
         """The next so many bytes of the output."""
-        heard, until = b"", time.monotonic() + PATIENCE
-        while len(heard) < count:
-            if not select.select([self.ran.stdout], [], [], max(0, until - time.monotonic()))[0]:
-                raise Wrong(f"no answer in {PATIENCE} seconds: {heard!r} of {count} bytes")
-            piece = self.ran.stdout.read(count - len(heard))
+        until = time.monotonic() + PATIENCE
+        while len(self.kept) < count:
+            piece = self._read(self.ran.stdout, until)
             if not piece:
-                raise Wrong(f"the output ends: {heard!r} of {count} bytes")
-            heard += piece
+                raise Wrong(f"the output ends: {told(self.kept)} of {count} bytes")
+            self.kept += piece
+        heard, self.kept = self.kept[:count], self.kept[count:]
         return heard
 
     def end(self):
         """Ends the input: the status, what was not heard of the output, and what stands on standard error."""
         self.ran.stdin.close()
-        out, errors = self.ran.stdout.read(), self.ran.stderr.read()
+        until = time.monotonic() + PATIENCE
+        out, errors = self.kept + self._rest(self.ran.stdout, until), self._rest(self.ran.stderr, until)
         return self.ran.wait(PATIENCE), out, errors
+
+    def _read(self, stream, until):
+        if not select.select([stream], [], [], max(0, until - time.monotonic()))[0]:
+            raise Wrong(f"nothing comes in {PATIENCE} seconds behind {told(self.kept)}")
+        return stream.read(1 << 16)
+
+    def _rest(self, stream, until):
+        return b"".join(iter(lambda: self._read(stream, until), b""))
