@@ -1,2 +1,1 @@
-pub mod AdapterLaws
 pub mod EndLaws

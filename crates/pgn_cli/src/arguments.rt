@@ -7,7 +7,7 @@ use std::env::{Args, Env};
 use std::io::ErrorKind;
 
 /// Why the words of the command line are not there.
-#[derive(Clone, Copy, Debug, PartialEq, Eq)]
+#[derive(Clone, Copy)]
 pub enum NoWords {
     /// Memory did not suffice for them.
     Memory,

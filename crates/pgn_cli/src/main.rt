@@ -5,19 +5,14 @@
 //! as a client's messages and frames, takes few reads.
 #![tactic(auto)]
 
-mod adapters;
 mod arguments;
-mod drawing;
 mod fault_line;
 mod program;
-#[cfg(test)]
-mod tests;
 
-use adapters::{Input, Output};
 use arguments::words;
-use drawing::drawn;
 use fault_line::fault_line;
 use pgn_run::{Means, Status};
+use pgn_streams::{Input, Output, drawn};
 use program::program;
 use std::io::BufReader;
 use std::process::ExitCode;

@@ -1,21 +1,39 @@
-use super::{name, note};
-use pgn_base::{Note, Seed};
+use pgn_base::{Name, Note, Payload, Seed};
 use pgn_pending::{Call, finish_after};
 use std::alloc::Global;
+
+// A name of 63 bytes, which are the most that a name has.
+const SAVED: &str = "s_and_as_many_letters_as_a_name_may_have_behind_it_which_are_62";
 
 // The commands of a transaction, each with its payload on channel c or its savepoint: what is rolled back goes, a repeat too, and a
 // savepoint that was released is none.
 const CALLS: [(&str, &str); 9] = [
     ("NOTIFY", "a"),
-    ("SAVEPOINT", "s"),
+    ("SAVEPOINT", SAVED),
     ("NOTIFY", "b"),
-    ("ROLLBACK TO", "s"),
+    ("ROLLBACK TO", SAVED),
     ("NOTIFY", "d"),
-    ("RELEASE", "s"),
-    ("ROLLBACK TO", "s"),
-    ("RELEASE", "s"),
+    ("RELEASE", SAVED),
+    ("ROLLBACK TO", SAVED),
+    ("RELEASE", SAVED),
     ("NOTIFY", "a"),
 ];
+
+// Values of these texts, if memory suffices. They have no clauses, so that those of the calls are worked out once.
+fn name(alloc: Global, text: &str) -> Option<Name> {
+    Name::new(alloc, text).ok()
+}
+
+fn note(alloc: Global, channel: &str, text: &str) -> Option<Note> {
+    let channel = name(alloc, channel)?;
+    match Payload::new(alloc, text) {
+        Ok(payload) => Some(Note { channel, payload }),
+        Err(_) => {
+            drop(channel);
+            None
+        }
+    }
+}
 
 // The call of a command, if memory suffices.
 fn call(alloc: Global, verb: &str, text: &str) -> Option<Call> {
@@ -66,9 +84,10 @@ fn are_left(notes: &[Note]) -> bool {
 // Whether they are, and no action is, if memory suffices.
 fn is_left(alloc: Global) -> Option<bool> {
     let calls = all_calls(alloc)?;
-    let left = finish_after(alloc, Seed::fixed(), calls).ok()?;
-    let is = left.0.as_slice().is_empty() && are_left(left.1.as_slice());
-    drop(left);
+    let (actions, notes) = finish_after(alloc, Seed::fixed(), calls).ok()?;
+    let is = actions.as_slice().is_empty() && are_left(notes.as_slice());
+    drop(actions);
+    drop(notes);
     Some(is)
 }
 

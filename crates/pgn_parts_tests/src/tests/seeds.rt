@@ -2,7 +2,7 @@
 use pgn_base::Seed;
 use std::hash::{BuildHasher, Hasher};
 
-fn hash_of(seed: Seed, bytes: &[u8]) -> u64 {
+pub fn hash_of(seed: Seed, bytes: &[u8]) -> u64 {
     let mut hasher = seed.build_hasher();
     hasher.write(bytes);
     hasher.finish()

@@ -52,11 +52,6 @@ impl<W: Write> Output<W> {
     {
         Output { writer, faults: 0 }
     }
-
-    #[cfg(test)]
-    pub fn writer(&self) -> &W {
-        &self.writer
-    }
 }
 
 impl<W: Write> Sink for Output<W> {

@@ -1,6 +1,6 @@
 use Rattle.std.proofs.Common.{◌≡◌}
 use Rattle.std.specs.Io.KnownBytes.{Keeps}
-use Rattle.pgn_cli.proofs.adapters.InputSource.read.Given as goal
+use Rattle.pgn_streams.proofs.adapters.InputSource.read.Given as goal
 
 -- what is left stays while reads are interrupted, and no fault is counted
 abbrev pub invariant-loop : goal.invariant-loop

@@ -1,3 +1,0 @@
-// A module for each part.
-mod entries;
-mod lanes;
