@@ -1,4 +1,4 @@
-use crate::printer::{Printer, state_text};
+use crate::printer::{put, put_effect, state_text};
 use crate::readings::command_of;
 use pgn_base::Seed;
 use pgn_block::{Block, Effect};
@@ -8,41 +8,41 @@ use std::alloc::Global;
 const DROP: &str = "\\drop";
 
 /// Puts the answers to the lines of a case, which are told to one block.
-pub fn put_block(printer: &mut Printer, alloc: Global, case: &str) {
+pub fn put_block(text: &mut Vec<u8>, alloc: Global, case: &str) {
     let mut block = Block::new(alloc, Seed::fixed());
     for line in case.split('\n') {
-        put_answer(printer, alloc, &mut block, line);
+        put_answer(text, alloc, &mut block, line);
     }
     drop(block);
-    printer.bytes(b"=====\n");
+    put(text, b"=====\n");
 }
 
 // A line, and on the same line what it is answered, and the new state where it changes.
-fn put_answer(printer: &mut Printer, alloc: Global, block: &mut Block, line: &str) {
+fn put_answer(text: &mut Vec<u8>, alloc: Global, block: &mut Block, line: &str) {
     let before = state_text(block.state());
-    printer.bytes(line.as_bytes());
-    printer.bytes(b": ");
+    put(text, line.as_bytes());
+    put(text, b": ");
     if line == DROP {
         block.drop_block();
-        printer.bytes(b"dropped");
+        put(text, b"dropped");
     } else {
-        put_effect(printer, alloc, block, line);
+        put_step(text, alloc, block, line);
     }
     let after = state_text(block.state());
     if after != before {
-        printer.bytes(b" -> ");
-        printer.bytes(after);
+        put(text, b" -> ");
+        put(text, after);
     }
-    printer.bytes(b"\n");
+    put(text, b"\n");
 }
 
-fn put_effect(printer: &mut Printer, alloc: Global, block: &mut Block, line: &str) {
+fn put_step(text: &mut Vec<u8>, alloc: Global, block: &mut Block, line: &str) {
     match effect_of(alloc, block, line) {
         Some(effect) => {
-            printer.effect(&effect);
+            put_effect(text, &effect);
             drop(effect);
         }
-        None => printer.fail(),
+        None => put(text, b"no line, or no memory"),
     }
 }
 

@@ -1,29 +1,29 @@
-use crate::printer::Printer;
-use crate::row::push_lines;
+use crate::printer::{put, put_number};
 use pgn_base::Format;
 use pgn_options::{Asked, WordsFault, read_words};
-use std::alloc::Global;
+use std::alloc::{AllocError, Global};
 
 /// Puts what the words of a case ask for, a word a line.
-pub fn put_asked(printer: &mut Printer, alloc: Global, case: &[u8]) {
-    let mut words = Vec::new(alloc);
-    match push_lines(&mut words, case) {
-        Some(()) => put_reading(printer, alloc, words.as_slice()),
-        None => printer.fail(),
+pub fn put_asked(text: &mut Vec<u8>, alloc: Global, case: &str) {
+    match case.lines().collect::<Vec<&str>>(alloc) {
+        Ok(words) => {
+            put_reading(text, alloc, words.as_slice());
+            drop(words);
+        }
+        Err(AllocError) => put(text, b"no memory"),
     }
-    drop(words);
-    printer.bytes(b"\n");
+    put(text, b"\n");
 }
 
-fn put_reading(printer: &mut Printer, alloc: Global, words: &[&str]) {
+fn put_reading(text: &mut Vec<u8>, alloc: Global, words: &[&str]) {
     match read_words(alloc, words) {
-        Ok(asked) => put_numbers(printer, asked),
-        Err(WordsFault::BadWords) => printer.bytes(b"no command"),
-        Err(WordsFault::Memory) => printer.fail(),
+        Ok(asked) => put_numbers(text, asked),
+        Err(WordsFault::BadWords) => put(text, b"no command"),
+        Err(WordsFault::Memory) => put(text, b"no memory"),
     }
 }
 
-fn put_numbers(printer: &mut Printer, asked: Asked) {
+fn put_numbers(text: &mut Vec<u8>, asked: Asked) {
     match asked {
         Asked::Run {
             pages,
@@ -31,9 +31,9 @@ fn put_numbers(printer: &mut Printer, asked: Asked) {
             format,
             live,
         } => {
-            put_settings(printer, b"run ", pages, patience, format);
+            put_settings(text, b"run ", pages, patience, format);
             if live {
-                printer.bytes(b" live");
+                put(text, b" live");
             }
         }
         Asked::Drill {
@@ -41,26 +41,26 @@ fn put_numbers(printer: &mut Printer, asked: Asked) {
             sessions,
             notes,
         } => {
-            printer.numbered(b"drill ", seed);
-            printer.numbered(b" ", u64::from(sessions));
-            printer.numbered(b" ", u64::from(notes));
+            put_number(text, b"drill ", seed);
+            put_number(text, b" ", u64::from(sessions));
+            put_number(text, b" ", u64::from(notes));
         }
-        Asked::Wire => printer.bytes(b"wire"),
+        Asked::Wire => put(text, b"wire"),
         Asked::Check {
             pages,
             patience,
             format,
-        } => put_settings(printer, b"check ", pages, patience, format),
-        Asked::Serve { seats } => printer.numbered(b"serve ", u64::from(seats)),
+        } => put_settings(text, b"check ", pages, patience, format),
+        Asked::Serve { seats } => put_number(text, b"serve ", u64::from(seats)),
     }
 }
 
 // The word of a command, and the numbers behind it.
-fn put_settings(printer: &mut Printer, word: &[u8], pages: u32, patience: u64, format: Format) {
-    printer.numbered(word, u64::from(pages));
-    printer.numbered(b" ", patience);
+fn put_settings(text: &mut Vec<u8>, word: &[u8], pages: u32, patience: u64, format: Format) {
+    put_number(text, word, u64::from(pages));
+    put_number(text, b" ", patience);
     match format {
-        Format::One => printer.bytes(b" 1"),
-        Format::Two => printer.bytes(b" 2"),
+        Format::One => put(text, b" 1"),
+        Format::Two => put(text, b" 2"),
     }
 }

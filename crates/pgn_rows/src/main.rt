@@ -1,17 +1,14 @@
 //! Worked rows: inputs with the outputs that they must give, as files, and the program that compares them.
 //!
 //! Standard input names the rows, one a line. The files of a row lie in the folder in which the program runs: `NAME.input` and
-//! `NAME.output`, and where they are not the default `NAME.words` (the words of the command line, one a line; else the one word
-//! `run`) and `NAME.status` (the exit status in decimal; else 0). What is done with an input is told by the name's ending:
+//! `NAME.output`. What is done with an input is told by the name's ending:
 //!
-//! - a plain name: a run of the program, of these words over this input;
 //! - `.lines`: each line of the input is a line of SQL, and the output has what it reads as, a line each;
 //! - `.faults`: the output has for each case of the input its fault, or the scenario that it reads as;
 //! - `.asked`: each case of the input has the words of a command line, a word a line, and the output has what they ask for, a line each;
-//! - `.blocks`: the lines of a case are told to one block, one after another, and the output has the answer to each;
-//! - `.checks`: each case of the input is a scenario with an output, and the output of the row has what `check` says of it, a line each;
-//! - `.changes`: each line of the input names a row that is a run; the output has what `check` says of its output, and each change of that
-//!   by one line that is legal too.
+//! - `.blocks`: the lines of a case are told to one block, one after another, and the output has the answer to each.
+//!
+//! Rows of other endings, and of none, are played by `tools/play` on the program that was built.
 //!
 //! After each case of an input a LF, `=====` and a LF follow, which are no part of it: a case that ends in a LF has an empty line
 //! before its `=====`. A character `…` in a line of SQL or in a case, and the byte after it, stand for 65,536 of that byte, as many
@@ -22,16 +19,13 @@
 #![tactic(auto)]
 
 mod answers;
-mod changes;
 mod command_lines;
 mod parts;
 mod printer;
 mod readings;
-mod report;
 mod row;
-mod runs;
 
-use report::report;
+use row::put_row;
 use std::io;
 use std::io::Write;
 
@@ -39,10 +33,9 @@ use std::io::Write;
 fn main(rt: HostRuntime) -> io::Result<()> {
     for name in rt.lines(rt.alloc()) {
         let name = name?;
-        let report = report(&rt, name.as_str());
-        if let Some(text) = report.text() {
-            let _ = rt.stdout().write_all(text);
-        }
+        let mut report = Vec::new(rt.alloc());
+        put_row(&rt, &mut report, name.as_str());
+        let _ = rt.stdout().write_all(report.as_slice());
     }
     Ok(())
 }

@@ -3,221 +3,192 @@ use pgn_answers::BlockState;
 use pgn_base::{Action, Actions, Command, Name, Needs, Note, Notes, Refusal, Tag, Warning, Which};
 use pgn_block::{Effect, Kind};
 use pgn_language::{Act, Scenario, ScenarioFault, ScriptLine, Section};
-use std::alloc::Global;
 
-/// The text that shows values to readers of the rows, in plain words. Names stand in double and payloads in single quotes, as
-/// they are. Once something could not be put, nothing more is.
-#[derive(Drop)]
-pub struct Printer {
-    text: Vec<u8>,
-    is_cut: bool,
+/// Puts these bytes behind a text. Where memory does not suffice they are missing, and the row comes out otherwise.
+pub fn put(text: &mut Vec<u8>, bytes: &[u8]) {
+    let _ = text.extend_from_slice(bytes);
 }
 
-impl Printer {
-    pub fn new(alloc: Global) -> Printer {
-        Printer {
-            text: Vec::new(alloc),
-            is_cut: false,
+/// Puts a number in decimal, behind these words.
+pub fn put_number(text: &mut Vec<u8>, words: &[u8], number: u64) {
+    let mut digits = Buffer::new();
+    put(text, words);
+    put(text, digits.format(number).as_bytes());
+}
+
+// Puts a name in double quotes, as it is, behind these words.
+fn put_named(text: &mut Vec<u8>, words: &[u8], name: &Name) {
+    put(text, words);
+    put(text, b" \"");
+    put(text, name.as_bytes());
+    put(text, b"\"");
+}
+
+// The payload stands in single quotes.
+fn put_note(text: &mut Vec<u8>, words: &[u8], note: &Note) {
+    put_named(text, words, &note.channel);
+    put(text, b", '");
+    put(text, note.payload.as_bytes());
+    put(text, b"'");
+}
+
+/// Puts what a line of SQL asks for.
+pub fn put_command(text: &mut Vec<u8>, command: &Command) {
+    match command {
+        Command::Empty => put(text, b"nothing"),
+        Command::Begin => put(text, b"begin"),
+        Command::Start => put(text, b"start transaction"),
+        Command::Commit => put(text, b"commit"),
+        Command::Rollback => put(text, b"rollback"),
+        Command::Savepoint(name) => put_named(text, b"savepoint", name),
+        Command::RollbackTo(name) => put_named(text, b"rollback to", name),
+        Command::Release(name) => put_named(text, b"release", name),
+        Command::Listen(name) => put_named(text, b"listen", name),
+        Command::Unlisten(name) => put_named(text, b"unlisten", name),
+        Command::UnlistenAll => put(text, b"unlisten all"),
+        Command::Notify(note) => put_note(text, b"notify", note),
+        Command::PgNotify(note) => put_note(text, b"pg_notify", note),
+        Command::ListeningChannels => put(text, b"listening channels"),
+        Command::QueueUsage => put(text, b"queue usage"),
+        Command::Invalid { which } => put(text, which_text(*which)),
+        Command::Bad { at } => put_number(text, b"wrong at byte ", u64::from(*at)),
+    }
+}
+
+/// Puts why an input is no scenario.
+pub fn put_fault(text: &mut Vec<u8>, fault: ScenarioFault) {
+    match fault {
+        ScenarioFault::TooLarge => put(text, b"too large"),
+        ScenarioFault::LineTooLong { line } => put_at_line(text, line, b"too long"),
+        ScenarioFault::NotUtf8 { at } => put_number(text, b"not UTF-8 at byte ", u64::from(at)),
+        ScenarioFault::NulByte { line } => put_at_line(text, line, b"zero byte"),
+        ScenarioFault::BadMeta { line } => put_at_line(text, line, b"bad meta line"),
+        ScenarioFault::NoSession { line } => put_at_line(text, line, b"before the first section"),
+        ScenarioFault::SameName { line } => put_at_line(text, line, b"name of an earlier section"),
+        ScenarioFault::TooMany { line } => put_at_line(text, line, b"too many"),
+        ScenarioFault::Empty => put(text, b"no section"),
+        ScenarioFault::NeverSignalled { line } => put_at_line(
+            text,
+            line,
+            b"flag is never signalled",
+        ),
+    }
+}
+
+fn put_at_line(text: &mut Vec<u8>, line: u32, what: &[u8]) {
+    put_number(text, b"line ", u64::from(line));
+    put(text, b": ");
+    put(text, what);
+}
+
+/// Puts the flags, and then each section with its lines.
+pub fn put_sections(text: &mut Vec<u8>, scenario: &Scenario) {
+    put(text, b"flags");
+    for flag in scenario.flags.as_slice() {
+        put_named(text, b"", flag);
+    }
+    for section in scenario.sections.as_slice() {
+        put_section(text, section);
+    }
+}
+
+fn put_section(text: &mut Vec<u8>, section: &Section) {
+    put_number(text, b"\nsection ", u64::from(section.no.get()));
+    put_named(text, b"", &section.name);
+    put_number(text, b" database ", u64::from(section.db.get()));
+    put_number(text, b" lines that notify ", u64::from(section.note_lines));
+    for line in section.lines.as_slice() {
+        put_script_line(text, line);
+    }
+}
+
+// A flag is shown by its place among the flags, from 0.
+fn put_script_line(text: &mut Vec<u8>, line: &ScriptLine) {
+    put_number(text, b"\n", u64::from(line.line));
+    put(text, b" ");
+    put(text, line.text.as_bytes());
+    put(text, b": ");
+    match &line.act {
+        Act::Run(command) => put_command(text, command),
+        Act::Signal(flag) => put_number(text, b"signal flag ", u64::from(*flag)),
+        Act::Await(flag) => put_number(text, b"await flag ", u64::from(*flag)),
+        Act::Quit => put(text, b"quit"),
+    }
+}
+
+/// Puts what a command comes to in a block.
+pub fn put_effect(text: &mut Vec<u8>, effect: &Effect) {
+    match effect {
+        Effect::Nothing => put(text, b"nothing"),
+        Effect::Reply { tag, warning } => {
+            put(text, warning_text(*warning));
+            put_tag(text, *tag);
         }
-    }
-
-    /// The text, where all of it was put.
-    pub fn text(&self) -> Option<&[u8]> {
-        if self.is_cut {
-            return None;
+        Effect::Refuse { refusal } => put_refusal(text, refusal),
+        Effect::Commit {
+            actions,
+            notes,
+            tag,
+        } => {
+            put_handed_out(text, actions, notes);
+            put_tag(text, *tag);
         }
-        Some(self.text.as_slice())
+        Effect::Query { kind } => match kind {
+            Kind::ListeningChannels => put(text, b"the channels"),
+            Kind::QueueUsage => put(text, b"the usage"),
+        },
     }
+}
 
-    pub fn bytes(&mut self, bytes: &[u8]) {
-        if !self.is_cut {
-            self.is_cut = self.text.extend_from_slice(bytes).is_err();
+fn put_tag(text: &mut Vec<u8>, tag: Tag) {
+    match tag {
+        Tag::Begin => put(text, b"BEGIN"),
+        Tag::Start => put(text, b"START TRANSACTION"),
+        Tag::Commit => put(text, b"COMMIT"),
+        Tag::Rollback => put(text, b"ROLLBACK"),
+        Tag::Savepoint => put(text, b"SAVEPOINT"),
+        Tag::Release => put(text, b"RELEASE"),
+        Tag::Listen => put(text, b"LISTEN"),
+        Tag::Unlisten => put(text, b"UNLISTEN"),
+        Tag::Notify => put(text, b"NOTIFY"),
+        Tag::Select(rows) => put_number(text, b"SELECT ", u64::from(rows)),
+    }
+}
+
+// What a commit hands out.
+fn put_handed_out(text: &mut Vec<u8>, actions: &Actions, notes: &Notes) {
+    put(text, b"commit");
+    for action in actions.as_slice() {
+        put_action(text, action);
+    }
+    for note in notes.as_slice() {
+        put_note(text, b", notify", note);
+    }
+    put(text, b"; ");
+}
+
+fn put_action(text: &mut Vec<u8>, action: &Action) {
+    match action {
+        Action::Listen(name) => put_named(text, b", listen", name),
+        Action::Unlisten(name) => put_named(text, b", unlisten", name),
+        Action::UnlistenAll => put(text, b", unlisten all"),
+    }
+}
+
+fn put_refusal(text: &mut Vec<u8>, refusal: &Refusal) {
+    match refusal {
+        Refusal::Syntax { at } => put_number(text, SYNTAX, u64::from(*at)),
+        Refusal::Bounds { which } => {
+            put(text, b"ERROR: 22023: ");
+            put(text, which_text(*which));
         }
-    }
-
-    /// Notes that something could not be put.
-    pub fn fail(&mut self) {
-        self.is_cut = true;
-    }
-
-    /// A number in decimal, behind these words.
-    pub fn numbered(&mut self, words: &[u8], number: u64) {
-        let mut digits = Buffer::new();
-        self.bytes(words);
-        self.bytes(digits.format(number).as_bytes());
-    }
-
-    fn named(&mut self, words: &[u8], name: &Name) {
-        self.bytes(words);
-        self.bytes(b" \"");
-        self.bytes(name.as_bytes());
-        self.bytes(b"\"");
-    }
-
-    fn note(&mut self, words: &[u8], note: &Note) {
-        self.named(words, &note.channel);
-        self.bytes(b", '");
-        self.bytes(note.payload.as_bytes());
-        self.bytes(b"'");
-    }
-
-    /// What a line of SQL asks for.
-    pub fn command(&mut self, command: &Command) {
-        match command {
-            Command::Empty => self.bytes(b"nothing"),
-            Command::Begin => self.bytes(b"begin"),
-            Command::Start => self.bytes(b"start transaction"),
-            Command::Commit => self.bytes(b"commit"),
-            Command::Rollback => self.bytes(b"rollback"),
-            Command::Savepoint(name) => self.named(b"savepoint", name),
-            Command::RollbackTo(name) => self.named(b"rollback to", name),
-            Command::Release(name) => self.named(b"release", name),
-            Command::Listen(name) => self.named(b"listen", name),
-            Command::Unlisten(name) => self.named(b"unlisten", name),
-            Command::UnlistenAll => self.bytes(b"unlisten all"),
-            Command::Notify(note) => self.note(b"notify", note),
-            Command::PgNotify(note) => self.note(b"pg_notify", note),
-            Command::ListeningChannels => self.bytes(b"listening channels"),
-            Command::QueueUsage => self.bytes(b"queue usage"),
-            Command::Invalid { which } => self.bytes(which_text(*which)),
-            Command::Bad { at } => self.numbered(b"wrong at byte ", u64::from(*at)),
+        Refusal::NeedsBlock { what } => put(text, needs_text(*what)),
+        Refusal::NoSavepoint { name } => {
+            put_named(text, b"ERROR: 3B001: savepoint", name);
+            put(text, b" does not exist");
         }
-    }
-
-    /// Why an input is no scenario.
-    pub fn fault(&mut self, fault: ScenarioFault) {
-        match fault {
-            ScenarioFault::TooLarge => self.bytes(b"too large"),
-            ScenarioFault::LineTooLong { line } => self.at_line(line, b"too long"),
-            ScenarioFault::NotUtf8 { at } => self.numbered(b"not UTF-8 at byte ", u64::from(at)),
-            ScenarioFault::NulByte { line } => self.at_line(line, b"zero byte"),
-            ScenarioFault::BadMeta { line } => self.at_line(line, b"bad meta line"),
-            ScenarioFault::NoSession { line } => self.at_line(line, b"before the first section"),
-            ScenarioFault::SameName { line } => self.at_line(line, b"name of an earlier section"),
-            ScenarioFault::TooMany { line } => self.at_line(line, b"too many"),
-            ScenarioFault::Empty => self.bytes(b"no section"),
-            ScenarioFault::NeverSignalled { line } => self.at_line(
-                line,
-                b"flag is never signalled",
-            ),
-        }
-    }
-
-    fn at_line(&mut self, line: u32, what: &[u8]) {
-        self.numbered(b"line ", u64::from(line));
-        self.bytes(b": ");
-        self.bytes(what);
-    }
-
-    /// The flags, and then each section with its lines.
-    pub fn scenario(&mut self, scenario: &Scenario) {
-        self.bytes(b"flags");
-        for flag in scenario.flags.as_slice() {
-            self.named(b"", flag);
-        }
-        for section in scenario.sections.as_slice() {
-            self.section(section);
-        }
-    }
-
-    fn section(&mut self, section: &Section) {
-        self.numbered(b"\nsection ", u64::from(section.no.get()));
-        self.named(b"", &section.name);
-        self.numbered(b" database ", u64::from(section.db.get()));
-        self.numbered(b" lines that notify ", u64::from(section.note_lines));
-        for line in section.lines.as_slice() {
-            self.script_line(line);
-        }
-    }
-
-    // A flag is shown by its place among the flags, from 0.
-    fn script_line(&mut self, line: &ScriptLine) {
-        self.numbered(b"\n", u64::from(line.line));
-        self.bytes(b" ");
-        self.bytes(line.text.as_bytes());
-        self.bytes(b": ");
-        match &line.act {
-            Act::Run(command) => self.command(command),
-            Act::Signal(flag) => self.numbered(b"signal flag ", u64::from(*flag)),
-            Act::Await(flag) => self.numbered(b"await flag ", u64::from(*flag)),
-            Act::Quit => self.bytes(b"quit"),
-        }
-    }
-
-    /// What a command comes to in a block.
-    pub fn effect(&mut self, effect: &Effect) {
-        match effect {
-            Effect::Nothing => self.bytes(b"nothing"),
-            Effect::Reply { tag, warning } => {
-                self.bytes(warning_text(*warning));
-                self.tag(*tag);
-            }
-            Effect::Refuse { refusal } => self.refusal(refusal),
-            Effect::Commit {
-                actions,
-                notes,
-                tag,
-            } => {
-                self.handed_out(actions, notes);
-                self.tag(*tag);
-            }
-            Effect::Query { kind } => match kind {
-                Kind::ListeningChannels => self.bytes(b"the channels"),
-                Kind::QueueUsage => self.bytes(b"the usage"),
-            },
-        }
-    }
-
-    fn tag(&mut self, tag: Tag) {
-        match tag {
-            Tag::Begin => self.bytes(b"BEGIN"),
-            Tag::Start => self.bytes(b"START TRANSACTION"),
-            Tag::Commit => self.bytes(b"COMMIT"),
-            Tag::Rollback => self.bytes(b"ROLLBACK"),
-            Tag::Savepoint => self.bytes(b"SAVEPOINT"),
-            Tag::Release => self.bytes(b"RELEASE"),
-            Tag::Listen => self.bytes(b"LISTEN"),
-            Tag::Unlisten => self.bytes(b"UNLISTEN"),
-            Tag::Notify => self.bytes(b"NOTIFY"),
-            Tag::Select(rows) => self.numbered(b"SELECT ", u64::from(rows)),
-        }
-    }
-
-    // What a commit hands out.
-    fn handed_out(&mut self, actions: &Actions, notes: &Notes) {
-        self.bytes(b"commit");
-        for action in actions.as_slice() {
-            self.action(action);
-        }
-        for note in notes.as_slice() {
-            self.note(b", notify", note);
-        }
-        self.bytes(b"; ");
-    }
-
-    fn action(&mut self, action: &Action) {
-        match action {
-            Action::Listen(name) => self.named(b", listen", name),
-            Action::Unlisten(name) => self.named(b", unlisten", name),
-            Action::UnlistenAll => self.bytes(b", unlisten all"),
-        }
-    }
-
-    fn refusal(&mut self, refusal: &Refusal) {
-        match refusal {
-            Refusal::Syntax { at } => self.numbered(SYNTAX, u64::from(*at)),
-            Refusal::Bounds { which } => {
-                self.bytes(b"ERROR: 22023: ");
-                self.bytes(which_text(*which));
-            }
-            Refusal::NeedsBlock { what } => self.bytes(needs_text(*what)),
-            Refusal::NoSavepoint { name } => {
-                self.named(b"ERROR: 3B001: savepoint", name);
-                self.bytes(b" does not exist");
-            }
-            Refusal::Aborted => self.bytes(ABORTED),
-            Refusal::QueueFull => self.bytes(FULL),
-        }
+        Refusal::Aborted => put(text, ABORTED),
+        Refusal::QueueFull => put(text, FULL),
     }
 }
 

@@ -1,19 +1,19 @@
-use crate::printer::Printer;
+use crate::printer::{put, put_command, put_fault, put_sections};
 use pgn_base::{Command, LINE_BYTES_MAX, Seed};
 use pgn_command::parse_line;
 use pgn_scenario::read_scenario;
 use std::alloc::{AllocError, Global};
 
 /// Puts what a line of SQL reads as.
-pub fn put_line(printer: &mut Printer, alloc: Global, line: &str) {
+pub fn put_line(text: &mut Vec<u8>, alloc: Global, line: &str) {
     match command_of(alloc, line) {
         Some(command) => {
-            printer.command(&command);
+            put_command(text, &command);
             drop(command);
         }
-        None => printer.fail(),
+        None => put(text, b"no line, or no memory"),
     }
-    printer.bytes(b"\n");
+    put(text, b"\n");
 }
 
 /// The command that a line reads as, unless it can be no line of an input, or memory does not suffice.
@@ -25,14 +25,14 @@ pub fn command_of(alloc: Global, line: &str) -> Option<Command> {
 }
 
 /// Puts what a case reads as: its fault or its scenario.
-pub fn put_scenario(printer: &mut Printer, alloc: Global, case: &[u8]) {
+pub fn put_scenario(text: &mut Vec<u8>, alloc: Global, case: &[u8]) {
     match read_scenario(alloc, Seed::fixed(), case) {
         Ok(Ok(scenario)) => {
-            printer.scenario(&scenario);
+            put_sections(text, &scenario);
             drop(scenario);
         }
-        Ok(Err(fault)) => printer.fault(fault),
-        Err(AllocError) => printer.fail(),
+        Ok(Err(fault)) => put_fault(text, fault),
+        Err(AllocError) => put(text, b"no memory"),
     }
-    printer.bytes(b"\n=====\n");
+    put(text, b"\n=====\n");
 }

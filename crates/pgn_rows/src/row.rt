@@ -1,54 +1,47 @@
-use std::alloc::AllocError;
+use crate::parts::put_parts;
+use crate::printer::put;
+use std::alloc::Global;
+use std::fs;
 use std::fs::Files;
-use std::{fs, str};
 
-// The endings of a row's files, and what stands for one that is not there. Of no row this is the input or the output.
-const FILES: [(&str, &[u8]); 4] = [
-    ("input", b"missing"),
-    ("output", b"missing"),
-    ("words", b"run\n"),
-    ("status", b"0\n"),
-];
-
-/// Reads the files of the row of this name: its input, its output, its words and its status.
-pub fn read_files<R: Files + AllocGlobal>(
-    rt: &R,
-    name: &str,
-    files: &mut Vec<Vec<u8>>,
-) -> Result<(), AllocError> {
-    for (ending, instead) in &FILES {
-        let file = read_file(rt, name, *ending, *instead)?;
-        files.push(file)?;
+/// Puts the name of the row, and where its input comes to another text than its output, both texts.
+pub fn put_row<R: Files + AllocGlobal>(rt: &R, report: &mut Vec<u8>, name: &str) {
+    let input = read_file(rt, name, "input");
+    let output = read_file(rt, name, "output");
+    put(report, name.as_bytes());
+    match (&input, &output) {
+        (Some(input), Some(output)) => {
+            put_differing(
+                report,
+                rt.alloc(),
+                name,
+                input.as_slice(),
+                output.as_slice(),
+            )
+        }
+        _ => put(report, b" has no input or no output"),
     }
-    Ok(())
+    put(report, b"\n");
+    drop(input);
+    drop(output);
 }
 
-fn read_file<R: Files + AllocGlobal>(
-    rt: &R,
-    name: &str,
-    ending: &str,
-    instead: &[u8],
-) -> Result<Vec<u8>, AllocError> {
-    let path = format!(in rt.alloc(); "{name}.{ending}")?;
+// A file of a row, where it is there and memory suffices.
+fn read_file<R: Files + AllocGlobal>(rt: &R, name: &str, ending: &str) -> Option<Vec<u8>> {
+    let path = format!(in rt.alloc(); "{name}.{ending}").ok()?;
     let read = fs::read(rt, path.as_str());
     drop(path);
-    match read {
-        Ok(bytes) => Ok(bytes),
-        Err(error) => {
-            drop(error);
-            Vec::from_slice(rt.alloc(), instead)
-        }
-    }
+    read.ok()
 }
 
-/// Puts the lines of a text behind others, unless it is no text or memory does not suffice.
-pub fn push_lines<'a>(lines: &mut Vec<&'a str>, text: &'a [u8]) -> Option<()> {
-    let text = str::from_utf8(text).ok()?;
-    if text.is_empty() {
-        return Some(());
+fn put_differing(report: &mut Vec<u8>, alloc: Global, name: &str, input: &[u8], output: &[u8]) {
+    let mut found = Vec::new(alloc);
+    put_parts(&mut found, alloc, name, input);
+    if found.as_slice() != output {
+        put(report, b" differs\n--- wanted:\n");
+        put(report, output);
+        put(report, b"--- found:\n");
+        put(report, found.as_slice());
     }
-    for line in text.strip_suffix("\n").unwrap_or(text).split('\n') {
-        lines.push(line).ok()?;
-    }
-    Some(())
+    drop(found);
 }
