@@ -1,5 +1,5 @@
 use Rattle.std.proofs.Common.{◌≡◌, None}
-use Rattle.pgn_queue_tests.proofs.tests.hub.tail.join_again.Given as goal
+use Rattle.pgn_queue_tests.proofs.tests.join_again.Given as goal
 
 abbrev pub invariant-rounds : goal.invariant-rounds
 invariant-rounds g l =

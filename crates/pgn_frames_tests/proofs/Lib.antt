@@ -1,2 +1,0 @@
--- two seats
-pub mod SeatLaws

@@ -1,2 +1,0 @@
--- seats of tests
-pub mod Seats

@@ -1,2 +1,0 @@
-mod EntryLaws
-mod SeatLaws
