@@ -1,5 +1,5 @@
 -- The places of the runs with a full queue, step by step.
-use Rattle.std.proofs.Common.{codes, ◌≡◌, ◌≢◌, ℕ, zero, suc, ◌+◌, [], ◌∷◌, length, get_or, true, false, Some, None, inl, inr, sym, ap, ◌∙◌, refl, arith}
+use Rattle.std.proofs.Common.{◌≡◌, ◌≢◌, ℕ, zero, suc, ◌+◌, [], ◌∷◌, length, get_or, true, false, Some, None, inl, inr, sym, ap, ◌∙◌, refl, arith}
 use Rattle.std.specs.Prelude.{replicate}
 use Rattle.std.specs.List.{list_all}
 use Rattle.std.specs.Str.{byte}
@@ -12,11 +12,8 @@ use Rattle.pgn_base.specs.Notes.{IsNote}
 use Rattle.pgn_journal.specs.Bytes.{header_bytes, aligned, entry_length}
 use Rattle.pgn_journal.specs.Packing.{page_of, is_page_start, fits, place, place_at, put_bytes, after_bytes, after_rest, put, put_all, ended, after}
 use Rattle.pgn_answers.specs.Savepoints.{firsts}
-use Rattle.pgn_journal.specs.Due.{is_due_to}
-use Rattle.pgn_journal.specs.Near.{Near}
 use Rattle.pgn_journal.specs.QueueUse.{NoPage}
 use Rattle.pgn_examples.specs.FullQueue.{many, long_note, last_one, full_run_journal, larger_run_journal}
-use Rattle.pgn_journal.proofs.NearLaws.{near-itself}
 use Rattle.pgn_journal.proofs.PackingLemmas.{first_place, place_folds}
 use Rattle.pgn_journal.proofs.PlainNotes.{is_plain, plain-note}
 
@@ -129,10 +126,6 @@ full_at_6 = record {
   no_page = omega arith;
   holder = (λ e. absurd (cc), λ e. absurd (omega (arith, e)));
 }
-
--- a listener at the end has no need to read
-pub near_end : Near One (is_due_to 1 (codes "c" ∷ [])) full_run_journal 8 8
-near_end = near-itself One (is_due_to 1 (codes "c" ∷ [])) full_run_journal 8 8 (omega arith)
 
 larger_first : place One larger_run_journal 3 ≡ 0
 larger_first = first_place One larger_run_journal

@@ -3,3 +3,5 @@ pub mod LongLiterals
 pub mod RunSteps
 pub mod FullSteps
 pub mod RefusedSteps
+pub mod ApartSteps
+pub mod LawfulSteps

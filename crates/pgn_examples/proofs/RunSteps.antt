@@ -36,7 +36,8 @@ contained {X = X} same f xs x h =
     let there = Any-from_list_any (same x) xs h in
     subst (λ (y : X). Contains xs y) (sym (f x there.1 there.4)) (there.0, there.2, there.3)
 
-tested : {X : Type 0} (P : X → Type 0) (p : X → Bool) → ((x : X) → p x ≡ true → P x) → (xs : List X) → list_all p xs ≡ true → All P xs
+-- what holds where a test passes holds of each of a list of which all pass it
+pub tested : {X : Type 0} (P : X → Type 0) (p : X → Bool) → ((x : X) → p x ≡ true → P x) → (xs : List X) → list_all p xs ≡ true → All P xs
 tested P p f [] h = All-nil P
 tested P p f (x ∷ xs) h = let parts = and_parts (p x) (list_all p xs) h in All-cons P x xs (f x parts.0) (tested P p f xs parts.1)
 

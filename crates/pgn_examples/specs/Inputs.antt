@@ -1,10 +1,11 @@
 -- Inputs and the scenarios that they read as, written out.
-use Rattle.std.specs.Prelude.{ℕ, List, [], ◌∷◌, ◌++◌, flat_map, codes, decimal}
+use Rattle.std.specs.Prelude.{ℕ, List, [], ◌∷◌, ◌++◌, map, codes, decimal}
 use Rattle.std.specs.List.{range_with_len}
 use Rattle.pgn_base.specs.declared.answers.Which.TheVariants.{ChannelEmpty}
 use Rattle.pgn_base.specs.declared.command.Command.TheVariants as command
 use Rattle.pgn_language.specs.declared.scenario.Act.TheVariants.{Run, Signal, Await, Quit}
 use Rattle.pgn_language.specs.declared.scenario.Scenario.{Scenario}
+use Rattle.pgn_language.specs.Lines.{Says, Opens}
 
 -- each kind of meta line, with spaces, tabs and a carriage return, a blank line, and a line that goes wrong
 abbrev pub meta_input : List ℕ
@@ -55,13 +56,13 @@ two_scenario = record {
   flags = codes "b1" ∷ codes "a1" ∷ [];
 }
 
--- so many sections without a line, of different names
-abbrev pub many_sections : ℕ → List ℕ
-many_sections n = flat_map (λ k. codes "\\session s" ++ decimal k ++ codes " 1\n") (range_with_len 1 n)
+-- what lines say that begin so many sections, of different names
+abbrev pub many_sections : ℕ → List Says
+many_sections n = map (λ k. Opens (codes "s" ++ decimal k) 1) (range_with_len 1 n)
 
--- a section with so many lines, which begin with this text and end with the numbers from 1 on
-abbrev pub many_flags : List ℕ → ℕ → List ℕ
-many_flags text n = codes "\\session a 1\n" ++ flat_map (λ k. text ++ decimal k ++ codes "\n") (range_with_len 1 n)
+-- what lines say that begin a section and name so many flags, numbered from 1 on, each in this way
+abbrev pub many_flags : (List ℕ → Says) → ℕ → List Says
+many_flags names n = Opens (codes "a") 1 ∷ map (λ k. names (codes "f" ++ decimal k)) (range_with_len 1 n)
 
 -- the scenario of `\session a_b 1`, `\quit`, a blank line, `\session b 1`, `LISTEN c`
 abbrev pub quit_scenario : Scenario

@@ -44,16 +44,8 @@ pub fn each_command()
     ensures usage { ReadsAs (codes "select PG_NOTIFICATION_QUEUE_USAGE ( )") (command.QueueUsage) }
 {}
 
-/// What says nothing is the command Empty.
-pub fn blank_lines()
-    ensures blanks { ReadsAs (codes " \t\r") (command.Empty) }
-    ensures feed_and_vertical_tab { ReadsAs (codes "LISTEN" ++ 12 ∷ 11 ∷ codes "a") (command.Listen (codes "a")) }
-    ensures comment { ReadsAs (codes "-- LISTEN c") (command.Empty) }
-    ensures semicolon { ReadsAs (codes " ; -- x") (command.Empty) }
-    ensures two { ReadsAs (codes "; ;") (command.Bad 2) }
-{}
-
-/// After TO and after RELEASE the word SAVEPOINT is the key word where a name follows, and else the name. After SAVEPOINT it is the name.
+/// After TO and after RELEASE the word SAVEPOINT is the key word where a name follows, and else the name. After SAVEPOINT it is the
+/// name.
 pub fn savepoint_word()
     ensures release { ReadsAs (codes "RELEASE SAVEPOINT") (command.Release (codes "savepoint")) }
     ensures release_ended { ReadsAs (codes "RELEASE SAVEPOINT ;") (command.Release (codes "savepoint")) }
@@ -106,8 +98,9 @@ pub fn arguments()
     ensures negative { ReadsAs (codes "select pg_notify('c', repeat('x', -1))") (command.Bad 34) }
 {}
 
-/// The limits of a notification are tested in order.
+/// Limits of notifications and of names, and characters past ASCII.
 pub fn limits()
+    // The limits of a notification are tested in order.
     ensures null_channel { ReadsAs (codes "select pg_notify(NULL, 'x')") (command.Invalid ChannelEmpty) }
     ensures empty_channel { ReadsAs (codes "select pg_notify('', repeat('x', 8000))") (command.Invalid ChannelEmpty) }
     ensures long_channel { ReadsAs (codes "select pg_notify(repeat('c', 64), repeat('x', 8000))") (command.Invalid ChannelTooLong) }
@@ -115,19 +108,22 @@ pub fn limits()
     ensures long_payload { ReadsAs (codes "select pg_notify('c', repeat('x', 8000))") (command.Invalid PayloadTooLong) }
     ensures long_literal { ReadsAs (codes "NOTIFY c, '" ++ replicate 8000 120 ++ codes "'") (command.Invalid PayloadTooLong) }
     ensures longest_literal { ReadsAs (codes "NOTIFY c, '" ++ replicate 7999 120 ++ codes "'") (command.Notify (record { channel = codes "c"; payload = replicate 7999 120 })) }
-{}
-
-/// Names are cut to 63 bytes, and key words are not.
-pub fn cut_names()
-    ensures word { ReadsAs (codes "LISTEN AAAAAAAAAAAAAAAAAAAAAAAAAAAAAAAAAAAAAAAAAAAAAAAAAAAAAAAAAAAAAAAA") (command.Listen (codes "aaaaaaaaaaaaaaaaaaaaaaaaaaaaaaaaaaaaaaaaaaaaaaaaaaaaaaaaaaaaaaa")) }
-    ensures quoted { ReadsAs (codes "LISTEN \"AAAAAAAAAAAAAAAAAAAAAAAAAAAAAAAAAAAAAAAAAAAAAAAAAAAAAAAAAAAAAAA\"") (command.Listen (codes "AAAAAAAAAAAAAAAAAAAAAAAAAAAAAAAAAAAAAAAAAAAAAAAAAAAAAAAAAAAAAAA")) }
-{}
-
-/// Characters past ASCII are not folded and not cut in two.
-pub fn other_characters()
+    // Names are cut to 63 bytes, and key words are not.
+    ensures cut_word { ReadsAs (codes "LISTEN AAAAAAAAAAAAAAAAAAAAAAAAAAAAAAAAAAAAAAAAAAAAAAAAAAAAAAAAAAAAAAAA") (command.Listen (codes "aaaaaaaaaaaaaaaaaaaaaaaaaaaaaaaaaaaaaaaaaaaaaaaaaaaaaaaaaaaaaaa")) }
+    ensures cut_quoted { ReadsAs (codes "LISTEN \"AAAAAAAAAAAAAAAAAAAAAAAAAAAAAAAAAAAAAAAAAAAAAAAAAAAAAAAAAAAAAAA\"") (command.Listen (codes "AAAAAAAAAAAAAAAAAAAAAAAAAAAAAAAAAAAAAAAAAAAAAAAAAAAAAAAAAAAAAAA")) }
+    // Characters past ASCII are not folded and not cut in two.
     ensures not_folded { ReadsAs (codes "LISTEN A" ++ (195 ∷ 137 ∷ [])) (command.Listen (codes "a" ++ (195 ∷ 137 ∷ []))) }
     ensures whole_character { ReadsAs (codes "LISTEN aaaaaaaaaaaaaaaaaaaaaaaaaaaaaaaaaaaaaaaaaaaaaaaaaaaaaaaaaaaaaa" ++ (195 ∷ 169 ∷ [])) (command.Listen (codes "aaaaaaaaaaaaaaaaaaaaaaaaaaaaaaaaaaaaaaaaaaaaaaaaaaaaaaaaaaaaaa")) }
     ensures last_character { ReadsAs (codes "LISTEN aaaaaaaaaaaaaaaaaaaaaaaaaaaaaaaaaaaaaaaaaaaaaaaaaaaaaaaaaaaaa" ++ (195 ∷ 169 ∷ 195 ∷ 169 ∷ [])) (command.Listen (codes "aaaaaaaaaaaaaaaaaaaaaaaaaaaaaaaaaaaaaaaaaaaaaaaaaaaaaaaaaaaaa" ++ (195 ∷ 169 ∷ []))) }
     ensures three_bytes { ReadsAs (codes "LISTEN aaaaaaaaaaaaaaaaaaaaaaaaaaaaaaaaaaaaaaaaaaaaaaaaaaaaaaaaaaaaa" ++ (226 ∷ 130 ∷ 172 ∷ [])) (command.Listen (codes "aaaaaaaaaaaaaaaaaaaaaaaaaaaaaaaaaaaaaaaaaaaaaaaaaaaaaaaaaaaaa")) }
     ensures last_three_bytes { ReadsAs (codes "LISTEN aaaaaaaaaaaaaaaaaaaaaaaaaaaaaaaaaaaaaaaaaaaaaaaaaaaaaaaaaaaa" ++ (226 ∷ 130 ∷ 172 ∷ 97 ∷ [])) (command.Listen (codes "aaaaaaaaaaaaaaaaaaaaaaaaaaaaaaaaaaaaaaaaaaaaaaaaaaaaaaaaaaaa" ++ (226 ∷ 130 ∷ 172 ∷ []))) }
+{}
+
+/// What says nothing is the command Empty.
+pub fn blank_lines()
+    ensures blanks { ReadsAs (codes " \t\r") (command.Empty) }
+    ensures feed_and_vertical_tab { ReadsAs (codes "LISTEN" ++ 12 ∷ 11 ∷ codes "a") (command.Listen (codes "a")) }
+    ensures comment { ReadsAs (codes "-- LISTEN c") (command.Empty) }
+    ensures semicolon { ReadsAs (codes " ; -- x") (command.Empty) }
+    ensures two { ReadsAs (codes "; ;") (command.Bad 2) }
 {}

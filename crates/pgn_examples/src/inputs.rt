@@ -1,6 +1,6 @@
 ghost use Rattle.std.specs.Prelude.{◌≡◌, ℕ, ◌<◌, ◌≤◌, true, false, List, [], ◌∷◌, ◌++◌, length, replicate, count_by, None, Some, Ok, Err, codes};
 ghost use Rattle.pgn_language.specs.declared.scenario.ScenarioFault.TheVariants as fault;
-ghost use Rattle.pgn_language.specs.Lines.{Says, says};
+ghost use Rattle.pgn_language.specs.Lines.{Says, Opens, Signals, Awaits, says};
 ghost use Rattle.pgn_language.specs.Inputs.{ReadsAsScenario, has_quit, has_section, notifies, are_too_many, fault_said};
 ghost use Rattle.pgn_language.specs.laws.Inputs.{lacks};
 ghost use Rattle.pgn_examples.specs.Runs.{self_notify_scenario, empty_scenario};
@@ -78,8 +78,10 @@ pub fn faults_of_size()
     ensures long_before_utf8 { ReadsAsScenario (replicate 65537 255) (Err (fault.LineTooLong 1)) }
     ensures note_line_within { (n : ℕ) (before : List Says) → has_quit before ≡ false → has_section before ≡ true → are_too_many before ≡ false → count_by notifies before ≤ 65535 → fault_said n before (says (codes "NOTIFY c")) ≡ None }
     ensures note_line { (n : ℕ) (before : List Says) → has_quit before ≡ false → has_section before ≡ true → count_by notifies before ≡ 65536 → fault_said n before (says (codes "NOTIFY c")) ≡ Some (fault.TooMany n) }
-    ensures sections { ReadsAsScenario (many_sections 257) (Err (fault.TooMany 257)) }
-    ensures flags { ReadsAsScenario (many_flags (codes "\\signal f") 257) (Err (fault.TooMany 258)) }
-    ensures awaited_flags { ReadsAsScenario (many_flags (codes "\\await f") 257) (Err (fault.TooMany 258)) }
-    ensures name_first { ReadsAsScenario (many_sections 256 ++ codes "\\session s1 1") (Err (fault.SameName 257)) }
+    ensures sections_within { fault_said 256 (many_sections 255) (Opens (codes "s256") 1) ≡ None }
+    ensures sections { fault_said 257 (many_sections 256) (Opens (codes "s257") 1) ≡ Some (fault.TooMany 257) }
+    ensures flags_within { fault_said 257 (many_flags Signals 255) (Awaits (codes "f256")) ≡ None }
+    ensures flags { fault_said 258 (many_flags Signals 256) (Signals (codes "f257")) ≡ Some (fault.TooMany 258) }
+    ensures awaited_flags { fault_said 258 (many_flags Awaits 256) (Awaits (codes "f257")) ≡ Some (fault.TooMany 258) }
+    ensures name_first { fault_said 257 (many_sections 256) (Opens (codes "s1") 1) ≡ Some (fault.SameName 257) }
 {}

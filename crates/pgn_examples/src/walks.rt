@@ -20,19 +20,17 @@ ghost use Rattle.pgn_journal.specs.Near.{Near};
 ghost use Rattle.pgn_model.specs.Legal.{Legal, IsShownWithin, finished_xids};
 ghost use Rattle.pgn_examples.specs.Walks.{on_c, on_d, x_note, c_name, walker, its_terms, its_trace, IsTraceOf, IsRefused, IsFresh, sent_by, own_tx, other_tx, delivered, answered, enlisted, published, listen_notify, notify_alone, notify_listen, listen_alone, listen_again, listen_again_items, never_listens, never_listens_items, block_lines, block_front, block_items, block_journal, joining_lines, joining_front, joining_items, joining_journal, left_open, held_back, other_journal, own_journal, mixed_journal, mixed_due, mixed_front, aborted_journal, own_front, own_read, listen_then, listen_await_begin, listen_then_nothing, listener_again, behind_in_block, d_journal, behind_before, listen_await_listen, listen_await_front, reads_behind, reads_before, begin_twice, empty_line, listen_unlisten, listen_twice, notify_twice, listen_notify_begin, roll_back, y_note, y_journal, two_own_journal, repeats, repeats_journal, repeats_due, listen_notify_listen, listener_trace, one_delivery, sender_trace, silent_trace, IsRun, alone, two_sent, pages_journal, settings_of_two, full_at, usage_at, two_blocks, two_blocks_items, two_blocks_journal, listen_in_block, listen_in_block_front, unlisten_one, unlisten_one_front, both_journal, pg_notify_alone};
 
-/// Traces of lines outside blocks: who listens already does not enlist again, and a read comes between lines or at the end.
+/// Lawful traces.
 pub fn lawful_walks()
+    // Traces of lines outside blocks: who listens already does not enlist again, and a read comes between lines or at the end.
     ensures again { IsTraceOf listen_again [] listen_again_items (Some 3) }
     ensures never { IsTraceOf never_listens own_journal never_listens_items None }
     ensures between_lines { IsTraceOf listen_notify_begin own_journal (own_front ++ own_read ++ answered 4 tag.Begin) (Some 4) }
     ensures channel_dropped { IsTraceOf unlisten_one both_journal (unlisten_one_front ++ Read 3 4 (delivered 3 1006 (on_d (codes "2")) ∷ []) ∷ []) (Some 4) }
     ensures pg_notify { IsTraceOf pg_notify_alone own_journal (Line 2 ∷ Publish 3 (x_note ∷ []) ∷ Reply (tag.Select 1) None ∷ []) None }
     ensures mixed { IsTraceOf listen_notify mixed_journal (mixed_front ++ Read 3 6 mixed_due ∷ []) (Some 6) }
-{}
-
-/// Traces of blocks: a COMMIT sends what survives, each once, and what an ended block had is gone. At the end of the script an open block
-/// is dropped.
-pub fn lawful_blocks()
+    // Traces of blocks: a COMMIT sends what survives, each once, and what an ended block had is gone. At the end of the script an open
+    // block is dropped.
     ensures block { IsTraceOf block_lines block_journal block_items (Some 4) }
     ensures joining { IsTraceOf joining_lines joining_journal joining_items (Some 5) }
     ensures left_open { IsTraceOf left_open other_journal (enlisted 2 3 3 ++ answered 3 tag.Begin ++ Read 3 4 (delivered 3 1006 x_note ∷ []) ∷ []) (Some 4) }
@@ -40,14 +38,12 @@ pub fn lawful_blocks()
     ensures two_blocks { IsTraceOf two_blocks two_blocks_journal two_blocks_items None }
 {}
 
-/// A trace is of its session and of its database.
-pub fn traces_of_another()
-    ensures session { TraceOk (its_terms listen_alone) (record (its_trace (enlisted 2 3 3) (Some 3)) { session = 6 }) [] → ⊥ }
-    ensures database { TraceOk (its_terms listen_alone) (record (its_trace (enlisted 2 3 3) (Some 3)) { db = 8 }) [] → ⊥ }
-{}
-
-/// Lines come in order, each once, and each after the whole answer to the one before.
+/// Which lines a trace has, and whose it is.
 pub fn refused_lines()
+    // A trace is of its session and of its database.
+    ensures of_another_session { TraceOk (its_terms listen_alone) (record (its_trace (enlisted 2 3 3) (Some 3)) { session = 6 }) [] → ⊥ }
+    ensures of_another_database { TraceOk (its_terms listen_alone) (record (its_trace (enlisted 2 3 3) (Some 3)) { db = 8 }) [] → ⊥ }
+    // Lines come in order, each once, and each after the whole answer to the one before.
     ensures out_of_order { IsRefused listen_notify own_journal (enlisted 3 3 3 ++ published 2 3 ++ own_read) (Some 4) }
     ensures another_number { IsRefused listen_alone [] (enlisted 9 3 3) (Some 3) }
     ensures left_out { IsRefused listen_notify [] (enlisted 2 3 3) (Some 3) }
@@ -57,8 +53,9 @@ pub fn refused_lines()
     ensures in_an_await { IsRefused listen_await_begin [] (enlisted 2 3 3 ++ Line 3 ∷ answered 4 tag.Begin) (Some 3) }
 {}
 
-/// Each line has its own answer, once.
+/// What the answer to a line has.
 pub fn refused_answers()
+    // Each line has its own answer, once.
     ensures left_out { IsRefused listen_alone [] (Line 2 ∷ Enlist 3 3 ∷ []) (Some 3) }
     ensures another_tag { IsRefused listen_alone [] (Line 2 ∷ Enlist 3 3 ∷ Reply tag.Unlisten None ∷ []) (Some 3) }
     ensures a_warning { IsRefused listen_alone [] (Line 2 ∷ Enlist 3 3 ∷ Reply tag.Listen (Some AlreadyInBlock) ∷ []) (Some 3) }
@@ -68,10 +65,7 @@ pub fn refused_answers()
     ensures no_enlist { IsRefused listen_alone [] (answered 2 tag.Listen) None }
     ensures no_publish { IsRefused notify_alone own_journal (answered 2 tag.Notify) None }
     ensures no_leave { IsRefused listen_unlisten [] (enlisted 2 3 3 ++ answered 3 tag.Unlisten) (Some 3) }
-{}
-
-/// A line of LISTEN has no item of another kind.
-pub fn refused_extra_items()
+    // A line of LISTEN has no item of another kind.
     ensures leaves { IsRefused listen_alone [] (enlisted 2 3 3 ++ Leave ∷ []) (Some 3) }
     ensures raises { IsRefused listen_alone [] (enlisted 2 3 3 ++ Raise 3 ∷ []) (Some 3) }
     ensures finds { IsRefused listen_alone [] (enlisted 2 3 3 ++ Found 3 ∷ []) (Some 3) }
@@ -112,8 +106,9 @@ pub fn refused_publishes()
     ensures rolled_back { IsRefused roll_back own_journal (answered 2 tag.Begin ++ answered 3 tag.Notify ++ Line 4 ∷ Publish 3 (x_note ∷ []) ∷ Reply tag.Rollback None ∷ []) None }
 {}
 
-/// A read goes from the mark to no less than what the session was told, within the journal, where no block is open.
+/// When a listener reads, and what it receives.
 pub fn refused_reads()
+    // A read goes from the mark to no less than what the session was told, within the journal, where no block is open.
     ensures before_the_mark { IsRefused listen_alone mixed_journal (enlisted 2 3 4 ++ Read 3 6 mixed_due ∷ []) (Some 6) }
     ensures past_the_mark { IsRefused listen_alone mixed_journal (enlisted 2 3 3 ++ Read 5 6 (delivered 5 1005 x_note ∷ []) ∷ []) (Some 6) }
     ensures no_listener { IsRefused notify_alone own_journal (published 2 3 ++ Read 3 4 [] ∷ []) (Some 4) }
@@ -123,11 +118,8 @@ pub fn refused_reads()
     ensures past_journal { IsRefused listen_notify own_journal (own_front ++ Read 3 5 (delivered 3 1005 x_note ∷ []) ∷ []) (Some 5) }
     ensures in_an_open_block { IsRefused held_back other_journal (enlisted 2 3 3 ++ answered 3 tag.Begin ++ (Read 3 4 (delivered 3 1006 x_note ∷ []) ∷ []) ++ answered 4 tag.Commit) (Some 4) }
     ensures before_the_answer { IsRefused listen_alone other_journal (Line 2 ∷ Enlist 3 3 ∷ Read 3 4 (delivered 3 1006 x_note ∷ []) ∷ Reply tag.Listen None ∷ []) (Some 4) }
-{}
-
-/// A read delivers all that is due, and nothing else.
-pub fn refused_deliveries()
-    ensures nothing { IsRefused listen_notify mixed_journal (mixed_front ++ Read 3 6 ([]) ∷ []) (Some 6) }
+    // A read delivers all that is due, and nothing else.
+    ensures receives_nothing { IsRefused listen_notify mixed_journal (mixed_front ++ Read 3 6 ([]) ∷ []) (Some 6) }
     ensures one_left_out { IsRefused listen_notify mixed_journal (mixed_front ++ Read 3 6 (delivered 4 1006 (on_c (codes "1")) ∷ delivered 5 1005 x_note ∷ []) ∷ []) (Some 6) }
     ensures one_too_many { IsRefused listen_notify mixed_journal (mixed_front ++ Read 3 6 (delivered 4 1006 (on_c (codes "1")) ∷ delivered 4 1006 (on_c (codes "2")) ∷ delivered 5 1005 x_note ∷ delivered 5 1005 x_note ∷ []) ∷ []) (Some 6) }
     ensures of_another_database { IsRefused listen_notify mixed_journal (mixed_front ++ Read 3 6 (delivered 3 1008 x_note ∷ delivered 4 1006 (on_c (codes "1")) ∷ delivered 4 1006 (on_c (codes "2")) ∷ delivered 5 1005 x_note ∷ []) ∷ []) (Some 6) }
@@ -149,13 +141,21 @@ pub fn refused_ends()
     ensures in_a_refusal { IsRefused (listen_then (Run (command.Bad 0))) [] listen_then_nothing (Some 3) }
 {}
 
-/// No read is left out at the end of a line, unless a block is open.
+/// Reads that are left out, and such as may be.
 pub fn missing_reads()
+    // No read is left out at the end of a line, unless a block is open.
     ensures block_is_fresh { IsFresh block_lines block_journal block_items (Some 4) }
     ensures fresh_between_lines { IsFresh listen_notify_begin own_journal (own_front ++ own_read ++ answered 4 tag.Begin) (Some 4) }
     ensures at_the_end { IsFresh listen_notify own_journal own_front (Some 3) → ⊥ }
     ensures between_lines { IsFresh listen_notify_begin own_journal (own_front ++ answered 4 tag.Begin) (Some 3) → ⊥ }
     ensures in_a_block { IsFreshAt (its_terms []) own_journal behind_in_block (Line 4) }
+    // Who listens on a channel behind what was sent on it, and knows so by a flag, does not receive that. In a trace where it does,
+    // each item is allowed, but the read before LISTEN was left out.
+    ensures reads_behind { IsTraceOf listen_await_listen d_journal reads_behind (Some 4) }
+    ensures read_left_out { IsFresh listen_await_listen d_journal reads_behind (Some 4) → ⊥ }
+    ensures left_out_at_its_line { IsFreshAt (its_terms listen_await_listen) d_journal (state_after (its_terms listen_await_listen) listen_await_front) (Line 4) → ⊥ }
+    ensures reads_before { IsTraceOf listen_await_listen d_journal reads_before (Some 4) }
+    ensures fresh_before { IsFresh listen_await_listen d_journal reads_before (Some 4) }
 {}
 
 /// Outside of a block a listener reads up to what it was told of before a line that listens or opens a block, and need not before
@@ -170,23 +170,11 @@ pub fn first_reads()
     ensures in_a_block { IsFreshAt (its_terms []) d_journal (record (behind_before (command.Listen (codes "d"))) { block = InBlock }) (Line 4) }
 {}
 
-/// Who listens on a channel behind what was sent on it, and knows so by a flag, does not receive that. In a trace where it does, each
-/// item is allowed, but the read before LISTEN was left out.
-pub fn listens_behind_what_was_sent()
-    ensures lawful { IsTraceOf listen_await_listen d_journal reads_behind (Some 4) }
-    ensures left_out { IsFresh listen_await_listen d_journal reads_behind (Some 4) → ⊥ }
-    ensures at_its_line { IsFreshAt (its_terms listen_await_listen) d_journal (state_after (its_terms listen_await_listen) listen_await_front) (Line 4) → ⊥ }
-    ensures lawful_before { IsTraceOf listen_await_listen d_journal reads_before (Some 4) }
-    ensures read_before { IsFresh listen_await_listen d_journal reads_before (Some 4) }
-{}
-
-/// What holds where the command line sets nothing.
-pub fn settings_by_default()
-    ensures settings { default_settings ≡ record { format = One; limit = 256; patience = 10000000 } }
-{}
-
-/// What the walk keeps of its items.
+/// What the walk is given, and what it keeps of its items.
 pub fn what_the_walk_keeps()
+    // What holds where the command line sets nothing.
+    ensures settings_by_default { default_settings ≡ record { format = One; limit = 256; patience = 10000000 } }
+    // What the walk keeps of its items.
     ensures marks { (state_after (its_terms listen_alone) (enlisted 2 3 4 ++ Read 4 6 [] ∷ [])).marks ≡ 3 ∷ 4 ∷ 6 ∷ [] }
     ensures first_told { (start (walker [])).told ≡ 3 }
     ensures told { (state_after (its_terms notify_alone) (published 2 8)).told ≡ 9 }
@@ -226,11 +214,7 @@ pub fn what_is_shown()
 
 /// What is no finished transaction.
 pub fn unfinished_transactions()
-    ensures no_notifications { IsFinished (two_sent [] 0 Committed) → ⊥ }
-    ensures repeated { IsFinished (two_sent (x_note ∷ x_note ∷ []) 2 Committed) → ⊥ }
-    ensures fewer_queued { IsFinished (two_sent (x_note ∷ y_note ∷ []) 1 Committed) → ⊥ }
     ensures more_queued { IsFinished (two_sent (x_note ∷ y_note ∷ []) 3 Committed) → ⊥ }
-    ensures all_queued { IsFinished (two_sent (x_note ∷ y_note ∷ []) 2 Aborted) → ⊥ }
     ensures no_channel { IsFinished (two_sent (record { channel = []; payload = [] } ∷ []) 1 Committed) → ⊥ }
     ensures no_channel_not_queued { IsFinished (two_sent (x_note ∷ (record { channel = []; payload = [] }) ∷ []) 1 Aborted) → ⊥ }
 {}

@@ -1,14 +1,10 @@
-use Rattle.std.proofs.Common.{◌≡◌, ℕ, List, [], ◌++◌, length, refl, arith, codes, replicate}
+use Rattle.std.proofs.Common.{◌≡◌, ℕ, List, [], length, refl, arith, codes, replicate}
 use Rattle.std.proofs.lemmas.List.{length-replicate}
 use Rattle.std.specs.Fmt.{digits}
-use Rattle.std.specs.Str.{is_utf8, chars}
-use Rattle.std.specs.Str.Lossy.{utf8_valid_len}
-use Rattle.std.proofs.Math.Utf8.{encode}
 use Rattle.pgn_language.specs.Grammar.{table, cut}
 use Rattle.pgn_language.specs.Lines.{says}
-use Rattle.pgn_language.specs.Inputs.{Large, fault_of, scenario_of}
-use Rattle.pgn_examples.specs.Inputs.{many_sections, many_flags}
-use Rattle.pgn_language.proofs.InputLaws.{input-reads, long-line, one-note_line_more, large-only, blank-line, lacks-replicate, one-note_line_within}
+use Rattle.pgn_language.specs.Inputs.{Large}
+use Rattle.pgn_language.proofs.InputLaws.{long-line, one-note_line_more, large-only, blank-line, lacks-replicate, one-note_line_within}
 use Rattle.pgn_examples.proofs.inputs.faults_of_size.Goals as goal
 
 pub returns-clause-input : goal.returns-clause-input
@@ -21,21 +17,29 @@ pub returns-clause-note_line : goal.returns-clause-note_line
 unfolding table cut says
 returns-clause-note_line c = λ n before q s m. one-note_line_more n before (record { channel = codes "c"; payload = [] }) q s m
 
+pub returns-clause-sections_within : goal.returns-clause-sections_within
+unfolding digits
+returns-clause-sections_within c = refl
+
 pub returns-clause-sections : goal.returns-clause-sections
-unfolding table cut says fault_of scenario_of is_utf8 chars encode utf8_valid_len digits
-returns-clause-sections c = input-reads (many_sections 257)
+unfolding digits
+returns-clause-sections c = refl
+
+pub returns-clause-flags_within : goal.returns-clause-flags_within
+unfolding digits
+returns-clause-flags_within c = refl
 
 pub returns-clause-flags : goal.returns-clause-flags
-unfolding table cut says fault_of scenario_of is_utf8 chars encode utf8_valid_len digits
-returns-clause-flags c = input-reads (many_flags (codes "\\signal f") 257)
+unfolding digits
+returns-clause-flags c = refl
 
 pub returns-clause-awaited_flags : goal.returns-clause-awaited_flags
-unfolding table cut says fault_of scenario_of is_utf8 chars encode utf8_valid_len digits
-returns-clause-awaited_flags c = input-reads (many_flags (codes "\\await f") 257)
+unfolding digits
+returns-clause-awaited_flags c = refl
 
 pub returns-clause-name_first : goal.returns-clause-name_first
-unfolding table cut says fault_of scenario_of is_utf8 chars encode utf8_valid_len digits
-returns-clause-name_first c = input-reads (many_sections 256 ++ codes "\\session s1 1")
+unfolding digits
+returns-clause-name_first c = refl
 
 pub returns-clause-input_within : goal.returns-clause-input_within
 returns-clause-input_within c = λ input within h. large-only input within h

@@ -1,5 +1,5 @@
 use Rattle.std.proofs.Common.{refl}
-use Rattle.pgn_base.specs.declared.format.Format.TheVariants.{One}
+use Rattle.pgn_base.specs.declared.format.Format.TheVariants.{One, Two}
 use Rattle.pgn_journal.specs.Bytes.{header, entry_length, spelled, filler}
 use Rattle.pgn_journal.specs.Packing.{filled_cells}
 use Rattle.pgn_journal.proofs.PackingSteps.{length-longest}
@@ -23,3 +23,26 @@ returns-clause-filler c = refl
 
 pub returns-clause-longest : goal.returns-clause-longest
 returns-clause-longest c = length-longest One
+
+pub returns-clause-two_shortest : goal.returns-clause-two_shortest
+unfolding spelled entry_length header
+returns-clause-two_shortest c = refl
+
+pub returns-clause-two_least : goal.returns-clause-two_least
+unfolding entry_length
+returns-clause-two_least c = refl
+
+pub returns-clause-two_whole : goal.returns-clause-two_whole
+unfolding entry_length
+returns-clause-two_whole c = refl
+
+pub returns-clause-two_longest : goal.returns-clause-two_longest
+returns-clause-two_longest c = length-longest Two
+
+pub returns-clause-two_large_number : goal.returns-clause-two_large_number
+unfolding spelled entry_length header
+returns-clause-two_large_number c = refl
+
+pub returns-clause-two_filler : goal.returns-clause-two_filler
+unfolding filler header
+returns-clause-two_filler c = refl

@@ -1,24 +1,12 @@
-use Rattle.std.proofs.Common.{[], ◌∷◌, refl, arith}
+use Rattle.std.proofs.Common.{[], ◌∷◌, arith}
 use Rattle.std.proofs.lemmas.List.Elements.{All-head, All-tail}
 use Rattle.pgn_base.specs.declared.note.Note.{Note}
 use Rattle.pgn_base.specs.Notes.{IsNote}
 use Rattle.pgn_examples.specs.Walks.{x_note}
 use Rattle.pgn_examples.proofs.walks.unfinished_transactions.Goals as goal
 
-pub returns-clause-no_notifications : goal.returns-clause-no_notifications
-returns-clause-no_notifications c = λ h. h.some refl
-
-pub returns-clause-repeated : goal.returns-clause-repeated
-returns-clause-repeated c = λ h. h.different 0 1 x_note (omega arith) (omega arith) refl
-
-pub returns-clause-fewer_queued : goal.returns-clause-fewer_queued
-returns-clause-fewer_queued c = λ h. let e = h.queueing in absurd (omega (arith, e))
-
 pub returns-clause-more_queued : goal.returns-clause-more_queued
 returns-clause-more_queued c = λ h. let e = h.queueing in absurd (omega (arith, e))
-
-pub returns-clause-all_queued : goal.returns-clause-all_queued
-returns-clause-all_queued c = λ h. let e = h.queueing in absurd (omega (arith, e))
 
 pub returns-clause-no_channel : goal.returns-clause-no_channel
 returns-clause-no_channel c = λ h. let e = (All-head IsNote (record { channel = []; payload = [] }) [] h.valid).name.some in absurd (omega (arith, e))

@@ -9,3 +9,7 @@ returns-clause-full c = refl
 pub returns-clause-used : goal.returns-clause-used
 unfolding digits
 returns-clause-used c = refl
+
+pub returns-clause-summaries : goal.returns-clause-summaries
+unfolding digits
+returns-clause-summaries c = refl
