@@ -1,7 +1,7 @@
 //! All sessions of a scenario over one hub, each on a thread of its own, or in turns where threads are few.
 //!
-//! `run_sessions` runs sessions until all are over, and `run_in_turns` does so on one thread. `drain` then lets them hear from each
-//! other what each knows of wakes, and lets each that still listens read once more. `open_on_hub` opens a hub for a scenario and makes a
+//! `run_sessions` runs sessions until all are over. `drain` then lets them hear from each other what each knows of wakes, and lets each
+//! that still listens read once more. `open_on_hub` opens a hub for a scenario and makes a
 //! session for each section, and `finish_run` drains sessions that are over, gathers their passes and merges their traces. `run_on_hub`
 //! does all that a scenario takes. What it answers is a legal run of the scenario.
 //!
@@ -35,5 +35,5 @@ mod running;
 mod whole_run;
 
 pub use draining::drain;
-pub use running::{run_in_turns, run_sessions};
+pub use running::run_sessions;
 pub use whole_run::{Run, finish_run, open_on_hub, run_on_hub};
