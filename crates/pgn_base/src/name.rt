@@ -21,7 +21,7 @@ pub struct Name {
 pub type Names = Seq<Name>;
 
 /// Why a text is no name, or why it was not kept as one.
-#[derive(Clone, Copy, Debug, PartialEq, Eq)]
+#[derive(Clone, Copy)]
 pub enum NameFault {
     Empty,
     TooLong,

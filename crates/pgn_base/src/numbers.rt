@@ -4,7 +4,7 @@ use crate::{FIRST_XID, SECTIONS_MAX};
 use std::marker::Model;
 
 /// A session's number in its scenario, from 1 to 256.
-#[derive(Clone, Copy, Debug, PartialEq, Eq, PartialOrd)]
+#[derive(Clone, Copy, PartialEq, Eq, PartialOrd)]
 pub struct SessionNo {
     number: u32,
 }
@@ -77,7 +77,7 @@ impl DbOid {
 
 /// A transaction number. The first that a run draws is 3, and entry k of the journal, from 0, has 3 + k. As a mark or a bound it
 /// stands for "below this number".
-#[derive(Clone, Copy, Debug, PartialEq, Eq, PartialOrd)]
+#[derive(Clone, Copy, PartialEq, Eq, PartialOrd)]
 pub struct Xid {
     number: u32,
 }

@@ -19,7 +19,7 @@ pub struct Payload {
 }
 
 /// Why a text is no payload, or why it was not kept as one.
-#[derive(Clone, Copy, Debug, PartialEq, Eq)]
+#[derive(Clone, Copy)]
 pub enum PayloadFault {
     TooLong,
     Nul,

@@ -3,7 +3,7 @@ use crate::{SessionNo, Xid};
 /// Why a transaction met a full queue: its number, how many of its notifications were written, the head's page, and the floor:
 /// its mark, its page, and the session that holds it, if one does. Pages from the floor's on are still needed, and those below it
 /// may be used again. Pages count from 0.
-#[derive(Clone, Copy, Debug, PartialEq, Eq)]
+#[derive(Clone, Copy)]
 pub struct Full {
     pub xid: Xid,
     pub queued: u32,
@@ -15,7 +15,7 @@ pub struct Full {
 
 /// How much of the queue is in use at a transaction number: `occupied` pages of `limit`, from the floor's page up to the head's.
 /// Pages from the floor's on are still needed, and those below it may be used again.
-#[derive(Clone, Copy, Debug, PartialEq, Eq)]
+#[derive(Clone, Copy)]
 pub struct Usage {
     pub at: Xid,
     pub occupied: u64,

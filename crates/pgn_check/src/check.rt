@@ -20,7 +20,7 @@ use pgn_ledger::Ledger;
 use std::alloc::{AllocError, Global};
 
 /// Whether a text is the output of a legal run of a scenario.
-#[derive(Clone, Copy, Debug, PartialEq, Eq)]
+#[derive(Clone, Copy)]
 pub enum Verdict {
     Legal,
     /// It is not: the number of the first line that is to blame, from 1. A line that is missing at the end has the number behind the

@@ -1,5 +1,5 @@
 /// What bytes begin with. The channel and the payload are parts of the bytes that were read.
-#[derive(Clone, Copy, PartialEq, Eq)]
+#[derive(Clone, Copy)]
 pub enum EntryView<'a> {
     /// A notification, in `len` bytes. `db` is its sender's database, from 1, `xid` the transaction and `pid` the process number
     /// of its sender: any numbers of 32 bits, and in format Two `xid` one of 64.

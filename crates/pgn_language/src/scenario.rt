@@ -42,7 +42,7 @@ pub struct Scenario {
 }
 
 /// Why an input is no scenario. `line` counts from 1, and `at` counts bytes of the input from 0.
-#[derive(Clone, Copy, Debug, PartialEq, Eq)]
+#[derive(Clone, Copy)]
 pub enum ScenarioFault {
     /// It has more than 16,777,216 bytes.
     TooLarge,

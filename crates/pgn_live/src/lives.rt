@@ -28,7 +28,7 @@ use std::thread::{Threads, join_mut};
 use std::time::Clock;
 
 /// Why sessions that ran live did not come to a good end.
-#[derive(Clone, Copy, Debug, PartialEq, Eq)]
+#[derive(Clone, Copy)]
 pub enum LiveFault {
     /// A write failed. The sessions have run on to their end all the same.
     Write,

@@ -18,7 +18,7 @@ use pgn_base::{Format, PAGES_DEFAULT, PATIENCE_DEFAULT};
 use std::alloc::{AllocError, Global};
 
 /// Why words are not read.
-#[derive(Clone, Copy, Debug, PartialEq, Eq)]
+#[derive(Clone, Copy)]
 pub enum WordsFault {
     /// They are no command.
     BadWords,

@@ -21,7 +21,7 @@ pub struct Pending {
 }
 
 /// No savepoint that stands has the name.
-#[derive(Clone, Copy, PartialEq, Eq)]
+#[derive(Clone, Copy)]
 pub struct NoSuch;
 
 impl Model for Pending {

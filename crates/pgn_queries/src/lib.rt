@@ -5,14 +5,15 @@
 //! at a time from any source, and the layer above may rely on it that it gives exactly these, however the reads cut the bytes. It takes
 //! no byte behind a query before it is asked for the next, so that a client which waits for an answer is not waited for.
 //!
-//! A caller, in a test, with a source in memory, of `pgn_memory`:
+//! A caller, over a source whose bytes are a Query `LISTEN c` and a Terminate:
 //!
 //! ```
-//! let bytes = Vec::from_slice(alloc, b"Q\0\0\0\x0dLISTEN c\0X\0\0\0\x04")?;
-//! let mut source = MemSource::new(bytes, Vec::new(alloc), 1);
 //! let mut queries = Queries::new(alloc, 65_536);
-//! let line = queries.next(alloc, &mut source);
-//! assert!(rt; matches!(line, Ok(Some(ScriptLine { act: Act::Run(Command::Listen(_)), .. }))));
+//! match queries.next(alloc, source)? {
+//!     // The line of `LISTEN c` comes first, and behind it none.
+//!     Some(line) => answer(line),
+//!     None => {}
+//! }
 //! ```
 #![tactic(auto)]
 

@@ -21,7 +21,7 @@ use std::marker::Model;
 use std::str;
 
 /// Why no query came.
-#[derive(Clone, Copy, Debug, PartialEq, Eq)]
+#[derive(Clone, Copy)]
 pub enum NoQuery {
     Fault(WireFault),
     /// The source failed.

@@ -1,6 +1,6 @@
 /// Why a client's bytes are refused. `at` is the offset of the message's first byte, counted from 0. The faults are tested in this
 /// order.
-#[derive(Clone, Copy, Debug, PartialEq, Eq)]
+#[derive(Clone, Copy)]
 pub enum WireFault {
     /// The message is neither a Query nor a Terminate.
     BadType { at: u64 },

@@ -8,17 +8,12 @@
 //!
 //! `run_scenario` is all of it behind the reading, over a hub of the type that its caller names.
 //!
-//! A caller, in a test, with a source and a sink in memory, of `pgn_memory`:
+//! A caller, over a source that gives two lines, `\session a 1` and `LISTEN c`:
 //!
 //! ```
-//! let alloc = rt.alloc();
-//! let input = Vec::from_slice(alloc, b"\\session a 1\nLISTEN c\n")?;
-//! let mut source = MemSource::new(input, Vec::new(alloc), 100);
-//! let mut sink = MemSink::new(alloc, 1000, Vec::new(alloc), 100)?;
-//! let status = run_notify(&rt, alloc, Seed::fixed(), &["run"], &mut source, &mut sink);
-//! assert!(rt; matches!(status, Status::Done));
-//! let want = b"journal 0\nsession 1 a db 1 pid 1001\n> LISTEN c\n+enlist 3 3\nLISTEN\nend mark 3\n";
-//! assert_eq!(rt; sink.held(), want.as_slice());
+//! let status = run_notify(&rt, alloc, hashes, &["run"], source, sink);
+//! // Where it is `Done`, the sink was given six lines: `journal 0`, `session 1 a db 1 pid 1001`, `> LISTEN c`, `+enlist 3 3`,
+//! // `LISTEN`, `end mark 3`.
 //! ```
 #![tactic(auto)]
 

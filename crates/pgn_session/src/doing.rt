@@ -2,7 +2,7 @@ use pgn_base::{Actions, Notes, Tag, Xid};
 
 /// Where the end flags of a scenario stand among its hub's flags: session i, of `sessions`, raises `first_end + i - 1` where its
 /// script ends.
-#[derive(Clone, Copy, Debug, PartialEq, Eq)]
+#[derive(Clone, Copy)]
 pub struct FlagPlan {
     pub first_end: u32,
     pub sessions: u32,
@@ -34,7 +34,7 @@ pub enum Doing {
 }
 
 /// What a step came to.
-#[derive(Clone, Copy, Debug, PartialEq, Eq)]
+#[derive(Clone, Copy, PartialEq, Eq)]
 pub enum Step {
     /// A line of the script got its whole answer, or the script's end began.
     Did,
@@ -45,7 +45,7 @@ pub enum Step {
 }
 
 /// What an idle session did.
-#[derive(Clone, Copy, Debug, PartialEq, Eq)]
+#[derive(Clone, Copy)]
 pub enum IdleDone {
     /// Nothing: a block is open.
     InBlock,

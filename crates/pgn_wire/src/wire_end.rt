@@ -1,7 +1,7 @@
 use pgn_queries::WireFault;
 
 /// Why a client was served no longer, though it had not ended.
-#[derive(Clone, Copy, Debug, PartialEq, Eq)]
+#[derive(Clone, Copy)]
 pub enum WireEnd {
     /// Its bytes are at fault.
     Bad(WireFault),
