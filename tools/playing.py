@@ -82,8 +82,9 @@ def sleeps_of(process):
 class Talk:
     """A run that is told more only once it has answered. Each call of it ends within PATIENCE, or raises Wrong."""
 
-    def __init__(self, program, words):
-        self.ran = subprocess.Popen([program, *words], stdin=subprocess.PIPE, stdout=subprocess.PIPE, stderr=subprocess.PIPE, bufsize=0)
+    def __init__(self, program, words, **how):
+        streams = {"stdin": subprocess.PIPE, "stdout": subprocess.PIPE, "stderr": subprocess.PIPE}
+        self.ran = subprocess.Popen([program, *words], bufsize=0, **{**streams, **how})
         # What was read and is not yet heard.
         self.kept = b""
 
@@ -94,7 +95,7 @@ class Talk:
         if self.ran.poll() is None:
             self.ran.kill()
         self.ran.wait()
-        for it in (self.ran.stdin, self.ran.stdout, self.ran.stderr):
+        for it in filter(None, (self.ran.stdin, self.ran.stdout, self.ran.stderr)):
             it.close()
 
     def tell(self, given):
@@ -115,6 +116,13 @@ class Talk:
             self.kept += piece
         heard, self.kept = self.kept[:count], self.kept[count:]
         return heard
+
+    def ended(self):
+        """The status and what stands on standard error, of a run that ends while its input goes on, and whose output nobody hears."""
+        try:
+            return self.ran.wait(PATIENCE), self.ran.stderr.read()
+        except subprocess.TimeoutExpired:
+            raise Wrong(f"it does not end in {PATIENCE} seconds") from None
 
     def end(self):
         """Ends the input: the status, what was not heard of the output, and what stands on standard error."""

@@ -148,12 +148,37 @@ def who_waits_for_one_that_is_refused_memory_ends(program):
     same(ended, (6, b"", OUT_OF_MEMORY), "status, output, errors")
 
 
+def _query(text):
+    message = text.encode() + b"\0"
+    return b"Q" + struct.pack(">I", 4 + len(message)) + message
+
+
+def _asks(seat, texts):
+    """The frames of queries that a seat's client asks."""
+    return b"".join(struct.pack(">HH", seat, len(it)) + it for it in map(_query, texts))
+
+
+def who_sleeps_beside_one_that_is_refused_memory_ends(program):
+    """A client of a service asks on until it is refused memory for what its transaction sends. The desk of another one, which has nothing to
+    do and sleeps until it is rung, ends with it, and so does the service, while its input goes on."""
+    how = {"stdout": subprocess.DEVNULL, "preexec_fn": lambda: resource.setrlimit(resource.RLIMIT_DATA, (64 << 20, 64 << 20))}
+    with Talk(program, ["serve", "--seats", "2"], **how) as talk:
+        talk.tell(_asks(2, ["LISTEN c"]) + _asks(1, ["BEGIN"]))
+        try:
+            # No two are equal, so each is kept: some 200 megabytes.
+            for at in range(40_000):
+                talk.tell(_asks(1, [f"SELECT pg_notify('c{at // 5000}', repeat('x', {at % 5000 + 2999}))"]))
+        except BrokenPipeError:
+            pass
+        same(talk.ended(), (6, OUT_OF_MEMORY), "status, errors")
+
+
 def a_client_that_is_refused_memory_was_told_whole_answers(program):
     """What a client has sent is kept until there is no memory for it. Then it has been told whole answers to its first queries."""
     def message(letter, body):
         return letter + struct.pack(">I", 4 + len(body)) + body
 
-    query = message(b"Q", b"SELECT pg_notify('c', repeat('x', 7999))\0")
+    query = _query("SELECT pg_notify('c', repeat('x', 7999))")
     column = struct.pack(">H", 1) + b"pg_notify\0" + struct.pack(">IHIhih", 0, 0, 25, -1, -1, 0)
     row = struct.pack(">HI", 1, 0)
     answer = message(b"T", column) + message(b"D", row) + message(b"C", b"SELECT 1\0") + message(b"Z", b"I")

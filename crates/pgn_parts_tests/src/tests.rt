@@ -1,5 +1,4 @@
 // A module for each part; `seeds` is of `pgn_base`.
 mod entries;
-mod pending;
 mod seeds;
 mod streams;
