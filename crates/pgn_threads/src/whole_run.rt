@@ -57,10 +57,40 @@ pub fn run_on_hub<H: Hub + Sync + Drop, R: Threads + Wait + Clock + Sync>(
         patience,
         format,
     };
-    let (hub, mut sessions) = open_with::<H>(alloc, opening, sections, &flags)?;
-    run_sessions(rt, alloc, &hub, sessions.as_mut_slice())?;
+    match run_opened::<H, R>(rt, alloc, opening, sections, &flags) {
+        Ok((run, sections)) => Ok((Scenario { sections, flags }, run)),
+        Err(error) => {
+            drop(flags);
+            Err(error)
+        }
+    }
+}
+
+// Runs the scenario of these sections and flags, as `run_on_hub` has it. The sessions take the sections, which are given back.
+fn run_opened<H: Hub + Sync + Drop, R: Threads + Wait + Clock + Sync>(
+    rt: &R,
+    alloc: Global,
+    opening: Opening,
+    sections: Sections,
+    flags: &Names,
+) -> Result<(Run, Sections), AllocError>
+    requires sound { IsSound (scenario_of sections flags.now) }
+    requires some_pages { PAGES_MIN ≤ opening.pages }
+    requires few_pages { opening.pages ≤ PAGES_MAX }
+    requires patient { 1 ≤ opening.patience }
+    ensures back { IfOk result (λ ran. ran.1 ≡ sections) }
+    ensures legal { IfOk result (λ ran. IsLegalBare (scenario_of sections flags.now)
+        (record { format = opening.format; limit = opening.pages; patience = opening.patience })
+        ran.0.journal.items ran.0.traces.items) }
+{
+    let (hub, mut sessions) = open_with::<H>(alloc, opening, sections, flags)?;
+    let Ok(()) = run_sessions(rt, alloc, &hub, sessions.as_mut_slice()) else {
+        drop(hub);
+        drop(sessions);
+        return Err(AllocError);
+    };
     let (run, sections) = finish_run(alloc, hub, sessions)?;
-    Ok((Scenario { sections, flags }, run))
+    Ok((run, sections))
 }
 
 /// Opens a hub of this type for a scenario, with a limit of so many pages and entries of this format, and makes a session for each
@@ -154,11 +184,22 @@ pub fn finish_run<H: Hub + Drop>(
     ensures sessions { IfOk result (λ ended. map (λ trace. trace.session) ended.0.traces.items ≡ map (λ s. s.section.no) sessions.items) }
     ensures sections { IfOk result (λ ended. ended.1 ≡ map (λ s. s.section) sessions.items) }
 {
-    drain(alloc, &hub, sessions.as_mut_slice())?;
-    let (passes, mut traces, sections) = logs(alloc, sessions)?;
+    let Ok(()) = drain(alloc, &hub, sessions.as_mut_slice()) else {
+        drop(hub);
+        drop(sessions);
+        return Err(AllocError);
+    };
+    let Ok((passes, mut traces, sections)) = logs(alloc, sessions) else {
+        drop(hub);
+        return Err(AllocError);
+    };
     are_within(&hub, passes.as_slice());
-    let _roll = hub.gather(passes);
-    let journal = merge(alloc, traces.as_mut_slice())?;
+    drop(hub.gather(passes));
+    let Ok(journal) = merge(alloc, traces.as_mut_slice()) else {
+        drop(traces);
+        drop(sections);
+        return Err(AllocError);
+    };
     let sections = Sections::from_items(sections);
     Ok((Run { journal, traces }, sections))
 }

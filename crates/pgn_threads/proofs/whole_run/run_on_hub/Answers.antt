@@ -1,60 +1,10 @@
-use Rattle.std.proofs.Common.{List, map, drop, length, sym, ap, ◌∙◌}
-use Rattle.std.specs.List.{range_with_len}
-use Rattle.std.proofs.lemmas.List.{length-map}
-use Rattle.std.proofs.lemmas.List.Elements.{All-same}
-use Rattle.pgn_hub.specs.declared.setup.SeatSetup.{SeatSetup}
-use Rattle.pgn_hub.specs.Shape.{Shape}
+use Rattle.std.proofs.Common.{List, ap}
 use Rattle.pgn_language.specs.declared.scenario.Section.{Section}
-use Rattle.pgn_session.specs.declared.session.Session.{Session}
-use Rattle.pgn_session.specs.Runs.{IsOver, IsReady, script_of}
-use Rattle.pgn_threads.specs.Opened.{plan_for, scenario_of, seat_for}
-use Rattle.pgn_threads.proofs.ListLemmas.{written-back, same-count}
-use Rattle.pgn_threads.proofs.WholeLaws.{numbers-opened, sections-are}
+use Rattle.pgn_threads.specs.Opened.{scenario_of}
 use Rattle.pgn_threads.proofs.whole_run.run_on_hub.Goals as goal
 
-pub run_sessions-requires-clause-ready : goal.run_sessions-requires-clause-ready
-run_sessions-requires-clause-ready g c κs within =
-    All-same (IsReady (g.H.Hub.is_pass c.in_ok-hub.hub) (g.H.Hub.shape c.in_ok-hub.hub) g.H.Pass.PassView.known) c.as_mut_slice.result.now c.in_ok-hub.sessions.items c.as_mut_slice.ensures.value c.in_ok-hub.ensures.ready
+pub returns-in-Ok-clause-back : goal.returns-in-Ok-clause-back
+returns-in-Ok-clause-back g c = ap (λ (ss : List Section). scenario_of ss c.args.scenario.flags) c.in-Ok.ensures.back
 
-pub finish_run-requires-clause-over : goal.finish_run-requires-clause-over
-finish_run-requires-clause-over g c κs within =
-    let new : List (Session g.row.H-Pass.Denot) = c.run_sessions.new.sessions in
-    let count = same-count script_of new c.as_mut_slice.result.now c.run_sessions.ensures.scripts ∙ c.as_mut_slice.ensures.len in
-    let back = written-back new (drop (length new) c.in_ok-hub.sessions.items) c.in_ok-hub.sessions.len (sym count) in
-    All-same (IsOver (g.H.Hub.is_pass c.in_ok-hub.hub) (g.H.Hub.shape c.in_ok-hub.hub) g.H.Pass.PassView.known) _ new back c.in_ok-run_sessions.ensures.over
-
-pub finish_run-requires-clause-all : goal.finish_run-requires-clause-all
-finish_run-requires-clause-all g c κs within =
-    let new : List (Session g.row.H-Pass.Denot) = c.run_sessions.new.sessions in
-    let count = same-count script_of new c.as_mut_slice.result.now c.run_sessions.ensures.scripts ∙ c.as_mut_slice.ensures.len in
-    let back = written-back new (drop (length new) c.in_ok-hub.sessions.items) c.in_ok-hub.sessions.len (sym count) in
-    let scripts = c.run_sessions.ensures.scripts ∙ ap (λ (sessions : List (Session g.row.H-Pass.Denot)). map script_of sessions) c.as_mut_slice.ensures.value ∙ c.in_ok-hub.ensures.scripts in
-    let seats = ap (λ (shape : Shape). shape.seats) c.in_ok-hub.ensures.shape in
-    ap (λ (sessions : List (Session g.row.H-Pass.Denot)). map (λ (s : Session g.row.H-Pass.Denot). s.section.no) sessions) back
-    ∙ numbers-opened c.args.scenario (plan_for c.args.scenario) c.args.patience new c.requires.sound scripts
-    ∙ ap (λ n. range_with_len 1 n) (sym (ap (λ (s : List SeatSetup). length s) seats ∙ length-map c.args.scenario.sections seat_for))
-
-pub returns-clause-back : goal.returns-clause-back
-returns-clause-back g c =
-    let new : List (Session g.row.H-Pass.Denot) = c.run_sessions.new.sessions in
-    let count = same-count script_of new c.as_mut_slice.result.now c.run_sessions.ensures.scripts ∙ c.as_mut_slice.ensures.len in
-    let back = written-back new (drop (length new) c.in_ok-hub.sessions.items) c.in_ok-hub.sessions.len (sym count) in
-    let scripts = c.run_sessions.ensures.scripts ∙ ap (λ (sessions : List (Session g.row.H-Pass.Denot)). map script_of sessions) c.as_mut_slice.ensures.value ∙ c.in_ok-hub.ensures.scripts in
-    ap (λ (ss : List Section). scenario_of ss c.args.scenario.flags)
-    (c.in_ok-run.ensures.sections ∙ ap (λ (sessions : List (Session g.row.H-Pass.Denot)). map (λ (s : Session g.row.H-Pass.Denot). s.section) sessions) back
-    ∙ sym (sections-are (plan_for c.args.scenario) c.args.patience c.args.scenario.sections new scripts))
-
-pub returns-clause-legal : goal.returns-clause-legal
-returns-clause-legal g c =
-    let new : List (Session g.row.H-Pass.Denot) = c.run_sessions.new.sessions in
-    let count = same-count script_of new c.as_mut_slice.result.now c.run_sessions.ensures.scripts ∙ c.as_mut_slice.ensures.len in
-    let back = written-back new (drop (length new) c.in_ok-hub.sessions.items) c.in_ok-hub.sessions.len (sym count) in
-    let scripts = c.run_sessions.ensures.scripts ∙ ap (λ (sessions : List (Session g.row.H-Pass.Denot)). map script_of sessions) c.as_mut_slice.ensures.value ∙ c.in_ok-hub.ensures.scripts in
-    let ended = c.in_ok-run.ensures.ended in
-    record {
-      whole = ended.whole;
-      are_bare = ended.are_bare;
-      legal =
-          ended.legal c.args.scenario c.args.pages c.args.patience c.args.format
-          (record { sound = c.requires.sound; opened = c.in_ok-hub.ensures.shape; scripts = ap (λ (sessions : List (Session g.row.H-Pass.Denot)). map script_of sessions) back ∙ scripts });
-    }
+pub returns-in-Ok-clause-legal : goal.returns-in-Ok-clause-legal
+returns-in-Ok-clause-legal g c = c.in-Ok.ensures.legal
