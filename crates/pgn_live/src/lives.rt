@@ -1,9 +1,9 @@
-ghost use Rattle.std.specs.Prelude.{◌≡◌, ◌<◌, ◌≤◌, true, [], map, length, Ok, Err, OnOk, OnErr, All};
+ghost use Rattle.std.specs.Prelude.{◌≡◌, ◌<◌, ◌≤◌, true, [], map, length, Ok, Err, IfOk, OnOk, OnErr, All};
 ghost use Rattle.std.specs.Io.KnownBytes.{Appends};
 ghost use Rattle.std.specs.Thread.{IsSync, IsSend};
 ghost use Rattle.pgn_base.specs.Outside.{AppendsPrefix, Rose};
 ghost use Rattle.pgn_language.specs.Inputs.{AreNumbered};
-ghost use Rattle.pgn_live.specs.Lives.{CameTo, ComesFirst, ComesWhole, HasWritten, StandIn, answer_of, logs_of};
+ghost use Rattle.pgn_live.specs.Lives.{CameTo, ComesFirst, ComesWhole, HasWritten, IsFresh, StandIn, answer_of, logs_of};
 ghost use Rattle.pgn_live.specs.Playing.{HavePlayed, IsNoneTold, MayPlay, sections_of};
 ghost use Rattle.pgn_live.specs.Turns.{HasToldTurn, HaveEnded, IsToldBy};
 ghost use Rattle.pgn_outlet.specs.Passes.{IsPassOf, knows};
@@ -18,6 +18,7 @@ use crate::writing::{Writer, cursors_for, write_rest, write_until};
 use pgn_base::{Failed, Sink};
 use pgn_hub::{Hub, PassView};
 use pgn_language::Section;
+use pgn_model::Items;
 use pgn_outlet::Outlet;
 use pgn_session::{Session, Step, give_up_all, wait_together, waits_behind};
 use pgn_text::Out;
@@ -67,12 +68,7 @@ pub fn run_live<
     ensures write_where_due { K.faults sink.old < K.faults sink.new → result ≡ Err LiveFault.Write }
     ensures later { K.faults sink.old ≤ K.faults sink.new }
 {
-    let Ok(cursors) = cursors_for(alloc, sections.len()) else {
-        give_up_first(hub, sessions);
-        return Err(LiveFault::Memory);
-    };
-    let Ok((outlet, pass, taker)) = Outlet::open(alloc) else {
-        drop(cursors);
+    let Ok((outlet, telling, writer)) = open_live(alloc, sections.len()) else {
         give_up_first(hub, sessions);
         return Err(LiveFault::Memory);
     };
@@ -85,14 +81,36 @@ pub fn run_live<
         relay: &relay,
         sections,
     };
+    let came = run_to_the_end(&live, telling, writer, sessions, sink);
+    outlet.destroy();
+    came
+}
+
+// The queue by which sessions tell, what they tell by, and who writes it, where there are so many sections.
+fn open_live(
+    alloc: Global,
+    sections: usize,
+) -> Result<(Outlet<Items>, Telling, Writer), AllocError>
+    ensures own { IfOk result (λ opened. IsPassOf opened.0 opened.1.pass
+        × IsPassOf opened.0 opened.2.pass) }
+    ensures sends { IfOk result (λ opened. knows opened.1.pass ≡ sender) }
+    ensures none { IfOk result (λ opened. IsNoneTold opened.1.told) }
+    ensures takes { IfOk result (λ opened. knows opened.2.pass ≡ rule.taker) }
+    ensures fresh { IfOk result (λ opened. All IsFresh opened.2.cursors.items) }
+    ensures nothing { IfOk result (λ opened. opened.2.out.kept ≡ []) }
+    ensures fine { IfOk result (λ opened. opened.2.out.so_far ≡ Ok tt) }
+{
+    let cursors = cursors_for(alloc, sections)?;
+    let Ok((outlet, pass, taker)) = Outlet::open(alloc) else {
+        drop(cursors);
+        return Err(AllocError);
+    };
     let writer = Writer {
         pass: taker,
         cursors,
         out: Out::new(),
     };
-    let came = run_to_the_end(&live, Telling::new(pass), writer, sessions, sink);
-    outlet.destroy();
-    came
+    Ok((outlet, Telling::new(pass), writer))
 }
 
 // Raises the end flags of sessions that have not begun.
