@@ -10,7 +10,7 @@ use Rattle.pgn_hub.specs.Shape.{Shape}
 use Rattle.pgn_session.specs.declared.session.Session.{Session}
 use Rattle.pgn_threads.specs.Parts.{HasReadAll}
 use Rattle.pgn_session.specs.Runs.{IsOver, Script, script_of, shown_of}
-use Rattle.pgn_threads.specs.Drain.{passes_of, signals_of, heard_up, heard_down, Rises, AreTop, HasReadOwn, AreOver, HaveHeardUp, HaveHeardDown, HaveRead, MayEndWithRead, EachMayEndWithRead, MayReadAt, FirstMayEndWithRead}
+use Rattle.pgn_threads.specs.Drain.{passes_of, signals_of, told_at, heard_up, heard_down, Rises, AreTop, HasReadOwn, AreOver, HaveHeardUp, HaveHeardDown, HaveRead, MayEndWithRead, EachMayEndWithRead, MayReadAt, FirstMayEndWithRead}
 use Rattle.pgn_threads.proofs.ToldLaws.{rises-on, rises-top, tops-on}
 use Rattle.pgn_threads.proofs.LastReadLaws.{all-read}
 
@@ -44,6 +44,16 @@ module _ {P : Type 0} (is_own : P → Type 0) (shape : Shape) (known : P → Kno
         ];
         rest = λ j le. get_or-set_other mid i j r.items [] (λ e. omega (arith, e, le)) ∙ h.rest j (omega (arith, le));
       })
+
+  -- the first session has nobody to hear from
+  pub up-first : All (IsOver is_own shape known) old → HaveHeardUp is_own shape known old old 1
+  up-first over = record {
+    shown = refl;
+    still = record { over = over; scripts = refl; count = refl };
+    first = omega arith;
+    last = omega arith;
+    rises = λ j lt. subst (λ (n : ℕ). told_at (signals_of known old) n ≤ told_at (signals_of known old) 0) (let none : 0 ≡ j = omega (arith, lt) in none) (omega arith);
+  }
 
   -- one more session has heard from the one before it
   pub up-next : (mid new : List (Session P)) (i : ℕ) → i < length old → HaveHeardUp is_own shape known old mid i → All (IsOver is_own shape known) new → map script_of new ≡ map script_of mid

@@ -1,5 +1,5 @@
 -- Lists that are mapped and joined.
-use Rattle.std.proofs.Common.{◌≡◌, ℕ, zero, suc, ◌+◌, ◌-◌, ◌<◌, List, [], ◌∷◌, ◌++◌, length, map, take, drop, flat_map, get_or, slice_get, IsSomeAnd, All, Any, Contains, sym, ap, ◌∙◌, refl, subst, arith}
+use Rattle.std.proofs.Common.{◌≡◌, ℕ, zero, suc, ◌+◌, ◌-◌, ◌<◌, List, [], ◌∷◌, ◌++◌, length, map, take, drop, flat_map, get_or, slice_get, IsSomeAnd, All, Any, Contains, sym, ap, ◌∙◌, refl, subst, arith, append-nil, append_assoc}
 use Rattle.std.proofs.lemmas.List.{length-map, map-append}
 use Rattle.std.proofs.lemmas.List.Elements.{All-nil, All-cons, All-head, All-tail, All-append, All-drop, All-same, All-take, Contains-append_left, Contains-append_right}
 
@@ -74,3 +74,12 @@ place-behind i n all cut lt = omega (arith, cut, lt)
 -- one more, mapped
 pub one-more : {X Y : Type 0} (f : X → Y) (xs : List X) (x : X) (ys zs : List Y) (y : Y) → ys ≡ map f xs → y ≡ f x → zs ≡ ys ++ y ∷ [] → zs ≡ map f (xs ++ x ∷ [])
 one-more {X} {Y} f xs x ys zs y so_far is more = more ∙ ap (λ (all : List Y). all ++ y ∷ []) so_far ∙ ap (λ (a : Y). map f xs ++ a ∷ []) is ∙ sym (map-append f xs (x ∷ []))
+
+-- what is done is all, where nothing is left
+pub all-done : {X : Type 0} (done left all : List X) → done ++ left ≡ all → length left ≡ 0 → done ≡ all
+all-done done [] all cut none = sym (append-nil done) ∙ cut
+all-done done (x ∷ left) all cut none = absurd (omega (arith, none))
+
+-- one more is done
+pub one-done : {X : Type 0} (done : List X) (x : X) (left more all : List X) → left ≡ x ∷ more → done ++ left ≡ all → (done ++ x ∷ []) ++ more ≡ all
+one-done done x left more all next cut = append_assoc done (x ∷ []) more ∙ ap (λ (xs : List _). done ++ xs) (sym next) ∙ cut

@@ -94,6 +94,10 @@ module _ {P : Type 0} (known : P → Known) (plan : FlagPlan) (patience : ℕ) (
     rest-next : map known over ≡ opened_for section ∷ map opened_for more
     rest-next = h.rest ∙ ap (λ (ss : List Section). map opened_for ss) next
 
+    -- a pass is left
+    pub some-left : length over ≡ 0 → ⊥
+    some-left none = omega (arith, none, length-map over known, ap (λ (ks : List Known). length ks) rest-next)
+
     -- a pass that is left is as it was opened for it
     pub is-opened : (pass : P) (rest : List P) → over ≡ pass ∷ rest → known pass ≡ opened_for section
     is-opened pass rest e = ap (λ (ks : List Known). get_or ks 0 (known pass)) (ap (λ (ps : List P). map known ps) (sym e) ∙ rest-next)

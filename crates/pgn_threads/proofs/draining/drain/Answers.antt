@@ -1,6 +1,9 @@
 use Rattle.std.proofs.Common.{rules}
-use Rattle.pgn_threads.proofs.DrainLaws.{up-next, up-last, down-next, down-last, read-next, read-last, shown-last}
+use Rattle.pgn_threads.proofs.DrainLaws.{up-first, up-next, up-last, down-next, down-last, read-next, read-last, shown-last}
 use Rattle.pgn_threads.proofs.draining.drain.Goals as goal
+
+pub loop-i-init : goal.loop-i-init
+loop-i-init g c = up-first (g.H.Hub.is_pass c.args.hub.now) (g.H.Hub.shape c.args.hub.now) g.P.PassView.known c.args.sessions.now c.requires.over
 
 pub loop-i-preserved : goal.loop-i-preserved
 loop-i-preserved g c =

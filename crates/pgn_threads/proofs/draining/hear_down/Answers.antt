@@ -1,4 +1,5 @@
-use Rattle.std.proofs.Common.{◌-◌, length}
+use Rattle.std.proofs.Common.{rules, ◌-◌, ◌<◌, length}
+use borrow.Author.Rules.{scaled_Fits}
 use Rattle.pgn_session.specs.Runs.{IsOver}
 use Rattle.pgn_threads.proofs.ListLemmas.{all-front, all-behind, place-before, place-behind}
 use Rattle.pgn_threads.proofs.MeetLaws.{down-all}
@@ -51,3 +52,9 @@ returns-clause-shown g c =
     c.split_at_mut-front.result.0.now c.split_at_mut-front.result.1.now c.args.i c.split_at_mut-front.ensures.front c.split_at_mut-front.ensures.back c.requires.place.0 c.requires.place.1
     (record { from_own = c.meet.ensures.own; into_own = c.meet.ensures.into_own; into_rested = c.meet.ensures.rested; told = c.meet.ensures.told; heard = c.meet.ensures.heard; from_same = c.meet.ensures.same; into_same = c.meet.ensures.into_same })
     c.requires.over).shown
+
+pub offset_bounds-front-i : goal.offset_bounds-front-i
+offset_bounds-front-i g c =
+    let front = c.split_at_mut-front.result.0.now in
+    let place : c.args.i - 1 < length front = place-before c.args.i (length front) c.requires.place.0 c.split_at_mut-front.ensures.front_len in
+    scaled_Fits (c.args.i - 1) (length front) _ place (search rules)

@@ -1,3 +1,5 @@
+use Rattle.std.proofs.Common.{rules, length}
+use borrow.Author.Rules.{scaled_Fits}
 use Rattle.pgn_threads.proofs.LastReadLaws.{read-over, read-scripts, read-signals, read-more, read-shown}
 use Rattle.pgn_threads.proofs.draining.read_last.Goals as goal
 
@@ -34,3 +36,6 @@ pub returns-clause-shown : goal.returns-clause-shown
 returns-clause-shown g c =
     read-shown (g.H.Hub.is_pass c.args.hub.now) (g.H.Hub.shape c.args.hub.now) g.P.PassView.known c.args.sessions.now c.args.i c.index-sessions-i.result c.finish_read.new.self c.requires.place
     (g.met.H.Hub.within c.args.hub.now _ (c.requires.over c.args.i c.index-sessions-i.result c.requires.place).own) c.finish_read.ensures.own c.finish_read.ensures.rested c.finish_read.ensures.same c.in_ok-finish_read.ensures.finished
+
+pub offset_bounds-sessions-i : goal.offset_bounds-sessions-i
+offset_bounds-sessions-i g c = scaled_Fits c.args.i (length c.args.sessions.now) _ c.requires.place (search rules)

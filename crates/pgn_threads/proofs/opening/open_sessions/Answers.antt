@@ -1,7 +1,7 @@
 use Rattle.std.proofs.Common.{◌≡◌, ◌++◌, ◌∷◌, [], List, sym, subst, arith}
 use Rattle.pgn_session.specs.declared.session.Session.{Session}
 use Rattle.pgn_threads.specs.Opened.{HaveOpened}
-use Rattle.pgn_threads.proofs.OpenLaws.{none-left, none-opened, is-fit, is-opened, one-opened, all-opened, all-scripts, same-script}
+use Rattle.pgn_threads.proofs.OpenLaws.{none-left, some-left, none-opened, is-fit, is-opened, one-opened, all-opened, all-scripts, same-script}
 use Rattle.pgn_threads.proofs.opening.open_sessions.Goals as goal
 
 pub loop-section-init : goal.loop-section-init
@@ -51,3 +51,11 @@ returns-clause-scripts g c =
 
 pub returns-clause-rested : goal.returns-clause-rested
 returns-clause-rested g c = c.loop-section.invariant.rested
+
+pub unreachable-requires : goal.unreachable-requires
+unreachable-requires g c =
+    let now = c.loop-section in
+    let ok = now.passes.rest.ok in
+    let none = c.in_default.ensures.cases in
+    some-left g.P.PassView.known c.args.shared.plan c.args.shared.patience c.args.sections.items c.args.passes.items now.yielded now.section-iterator.rest.items now.passes.rest.items now.sessions.items
+    c.in-Some.section c.next.new.self.rest.items c.in-Some.ensures.steps.0 now.invariant (omega (arith, ok, none.0))
