@@ -87,10 +87,7 @@ pub fn run_live<
 }
 
 // The queue by which sessions tell, what they tell by, and who writes it, where there are so many sections.
-fn open_live(
-    alloc: Global,
-    sections: usize,
-) -> Result<(Outlet<Items>, Telling, Writer), AllocError>
+fn open_live(alloc: Global, sections: usize) -> Result<(Outlet<Items>, Telling, Writer), AllocError>
     ensures own { IfOk result (λ opened. IsPassOf opened.0 opened.1.pass
         × IsPassOf opened.0 opened.2.pass) }
     ensures sends { IfOk result (λ opened. knows opened.1.pass ≡ sender) }

@@ -12,6 +12,9 @@ play_and_write-played-requires-clause-may g c κs o =
 pub play_and_write-played-requires-clause-takes : goal.play_and_write-played-requires-clause-takes
 play_and_write-played-requires-clause-takes g c κs o = ap (λ (v : Hand). v.takes) c.requires.takes
 
+pub play_and_write-played-requires-clause-none : goal.play_and_write-played-requires-clause-none
+play_and_write-played-requires-clause-none g c κs o = c.requires.none
+
 pub close-requires-clause-takes : goal.close-requires-clause-takes
 close-requires-clause-takes g c = ap (λ (v : Hand). v.takes) c.play_and_write-played.ensures.wrote.got ∙ ap (λ (v : Hand). v.takes) c.requires.takes
 

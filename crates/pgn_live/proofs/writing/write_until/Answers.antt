@@ -1,5 +1,5 @@
 use Rattle.pgn_outlet.specs.Passes.{knows}
-use Rattle.pgn_live.proofs.WriteLaws.{Wrote-trans}
+use Rattle.pgn_live.proofs.WriteLaws.{Wrote-none, Wrote-trans}
 use Rattle.pgn_live.proofs.writing.write_until.Goals as goal
 
 pub loop-preserved-then-write_next : goal.loop-preserved-then-write_next
@@ -17,3 +17,24 @@ loop-preserved g c = record {
   stand = c.write_next.ensures.stand;
   wrote = Wrote-trans g.K.Sink.held g.K.Sink.faults c.args.live.now.sections.now (knows c.args.writer.now.pass) (knows c.loop.writer.pass) (knows c.write_next.new.writer.pass) c.args.sink.now c.loop.sink c.write_next.new.sink c.args.writer.now.out c.loop.writer.out c.write_next.new.writer.out c.loop.invariant.wrote c.write_next.ensures.wrote;
 }
+
+pub loop-init : goal.loop-init
+loop-init g c = record {
+  own = c.requires.own;
+  takes = c.requires.takes;
+  stand = c.requires.stand;
+  wrote = Wrote-none g.K.Sink.held g.K.Sink.faults c.args.live.now.sections.now (knows c.args.writer.now.pass) c.args.sink.now c.args.writer.now.out;
+}
+
+pub returns-then-has_ended-clause-own : goal.returns-then-has_ended-clause-own
+returns-then-has_ended-clause-own g c = c.write_next.ensures.own
+
+pub returns-then-has_ended-clause-takes : goal.returns-then-has_ended-clause-takes
+returns-then-has_ended-clause-takes g c = c.write_next.ensures.takes
+
+pub returns-then-has_ended-clause-stand : goal.returns-then-has_ended-clause-stand
+returns-then-has_ended-clause-stand g c = c.write_next.ensures.stand
+
+pub returns-then-has_ended-clause-wrote : goal.returns-then-has_ended-clause-wrote
+returns-then-has_ended-clause-wrote g c =
+    Wrote-trans g.K.Sink.held g.K.Sink.faults c.args.live.now.sections.now (knows c.args.writer.now.pass) (knows c.loop.writer.pass) (knows c.write_next.new.writer.pass) c.args.sink.now c.loop.sink c.write_next.new.sink c.args.writer.now.out c.loop.writer.out c.write_next.new.writer.out c.loop.invariant.wrote c.write_next.ensures.wrote
