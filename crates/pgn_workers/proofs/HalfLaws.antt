@@ -1,18 +1,33 @@
 -- Two halves that have run, or neither.
-use Rattle.std.proofs.Common.{◌≡◌, ◌++◌, Option, Some, None, Result, sym, subst}
+use Rattle.std.proofs.Common.{◌≡◌, ◌++◌, Option, Some, None, Result, refl, sym, ap, subst}
 use Rattle.std.specs.Result.{result_and}
 use Rattle.pgn_workers.specs.Parts.{Part, part, HalvesMayHaveRun, MayHaveRun, MayStillRun, StandsFor}
 
-module _ {W A X : Type 0} (ran : Part W A → Part W A → X → Type 0) (old new : Part W A) where
-  -- a half that has run, and one that has not
-  pub has-run : (o : Option X) (answer : X) → o ≡ Some answer → MayHaveRun ran old new o → ran old new answer
-  has-run o answer is may = subst (λ (x : Option X). MayHaveRun ran old new x) is may
+module _ {W A X : Type 0} (begins : Part W A → Type 0) (ran : Part W A → Part W A → X → Type 0) (old new : Part W A) where
+  -- a half that has not run may begin
+  pub half-begins : (o : Option X) → begins old → MayHaveRun ran old new o → o ≡ None → begins new
+  half-begins o may came none = subst begins (sym (subst (λ (x : Option X). MayHaveRun ran old new x) none came)) may
 
-  -- a half that had not run has run once the caller has run it
-  pub runs-still : (o : Option X) (last : Part W A) (answer : X) → o ≡ None → MayHaveRun ran old new o → ran new last answer → ran old last answer
-  runs-still o last answer is may now =
-      let same : new ≡ old = subst (λ (x : Option X). MayHaveRun ran old new x) is may in
-      subst (λ (p : Part W A). ran p last answer) same now
+  -- so it may run still, or has run
+  pub half-still : (o : Option X) → (o ≡ None → begins new) → MayHaveRun ran old new o → MayStillRun begins ran old new o
+  half-still None may same = record {
+    same = ap (λ (p : Part W A). p.workers) same;
+    may = may refl;
+    comes_to = λ last answer now. subst (λ (p : Part W A). ran p last answer) same now;
+  }
+  half-still (Some answer) may came = came
+
+  -- and is as it was
+  pub as-it-was : (o : Option X) → o ≡ None → MayHaveRun ran old new o → new ≡ old
+  as-it-was o none came = subst (λ (x : Option X). MayHaveRun ran old new x) none came
+
+  -- a part that has run
+  pub has-run : (o : Option X) (answer : X) → o ≡ Some answer → MayStillRun begins ran old new o → ran old new answer
+  has-run o answer is came = subst (λ (x : Option X). MayStillRun begins ran old new x) is came
+
+  -- one that has not
+  pub stands-still : (o : Option X) → o ≡ None → MayStillRun begins ran old new o → StandsFor begins ran old new
+  stands-still o none came = subst (λ (x : Option X). MayStillRun begins ran old new x) none came
 
 module _ {W A X E : Type 0} (begins : Part W A → Type 0) (ran : Part W A → Part W A → Result X E → Type 0) (cut : Part W A → Part W A → Part W A → Type 0) (joined : A → A → A → Type 0)
     (ran_both : (p l l_new r r_new : Part W A) (h : A) (a b : Result X E) → cut p l r → ran l l_new a → ran r r_new b → joined l_new.hand r_new.hand h → ran p (part (l_new.workers ++ r_new.workers) h) (result_and a b))

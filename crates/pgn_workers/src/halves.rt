@@ -1,7 +1,7 @@
-ghost use Rattle.std.specs.Prelude.{◌<◌, ◌≤◌, length};
+ghost use Rattle.std.specs.Prelude.{◌≡◌, ◌<◌, ◌≤◌, None, length};
 ghost use Rattle.std.specs.Thread.{IsSync, IsSend};
 ghost use Rattle.pgn_workers.specs.Jobs.{IsJob};
-ghost use Rattle.pgn_workers.specs.Parts.{part, HalvesMayHaveRun, MayHaveRun, MayStillRun};
+ghost use Rattle.pgn_workers.specs.Parts.{Part, part, HalvesMayHaveRun, MayHaveRun, MayStillRun};
 
 use crate::crew::Crew;
 use crate::meeting::Meeting;
@@ -45,10 +45,8 @@ fn run_crew<W: Send, A: Send, J: Crew<W, A> + Sync, R: Threads + Wait + Sync>(
     if workers.len() <= 1 {
         return crew.run_alone(rt, workers, hand);
     }
-    match run_apart(rt, crew, workers, hand) {
-        Some(answer) => answer,
-        None => crew.run_alone(rt, workers, hand),
-    }
+    let came = run_apart(rt, crew, workers, hand);
+    run_still(rt, crew, workers, hand, came)
 }
 
 // Runs the two halves of workers side by side. Where they don't meet there is no answer, and nothing was done.
@@ -68,35 +66,10 @@ fn run_apart<W: Send, A: Send, J: Crew<W, A> + Sync, R: Threads + Wait + Sync>(
     crew.laws();
     let (left, right) = workers.split_at_mut(workers.len() / 2);
     let mut other = crew.cut(hand, left.len());
-    let answer = run_halves(rt, crew, left, hand, right, &mut other);
+    let came = join_halves(rt, crew, left, hand, right, &mut other);
+    let answer = run_halves(rt, crew, left, hand, right, &mut other, came);
     crew.join(hand, other);
     answer
-}
-
-// Runs two halves side by side, where they meet. Who takes the word decides for both, so that none runs alone; but no contract knows
-// that, so a half that did not run takes turns where the other one did.
-#[cycle(halves)]
-fn run_halves<W: Send, A: Send, J: Crew<W, A> + Sync, R: Threads + Wait + Sync>(
-    rt: &R,
-    crew: &J,
-    left: &mut [W],
-    hand: &mut A,
-    right: &mut [W],
-    other: &mut A,
-) -> Option<Result<(), AllocError>>
-    requires ready { J.ready crew.now }
-    requires some { (0 < length left.old) × (0 < length right.old) }
-    requires left { J.begins crew.now (part left.old hand.old) }
-    requires right { J.begins crew.now (part right.old other.old) }
-    ensures { HalvesMayHaveRun (J.ran crew.now) (part left.old hand.old)
-        (part left.new hand.new) (part right.old other.old) (part right.new other.new) result }
-{
-    match join_halves(rt, crew, left, hand, right, other) {
-        (None, None) => None,
-        (Some(first), Some(second)) => Some(first.and(second)),
-        (Some(first), None) => Some(first.and(crew.run_alone(rt, right, other))),
-        (None, Some(second)) => Some(crew.run_alone(rt, left, hand).and(second)),
-    }
 }
 
 // Takes each half to a thread of its own, where they meet: the left one is on the new thread, and the caller waits for it before it runs
@@ -160,4 +133,55 @@ fn run_met<W: Send, A: Send, J: Crew<W, A> + Sync, R: Threads + Wait + Sync>(
         return None;
     }
     Some(run_crew(rt, crew, workers, hand))
+}
+
+// Runs what has not run of two halves: each has, or is as it was. Who takes the word decides for both, so that none runs alone; but no
+// contract knows that, so a half that did not run takes turns where the other one did.
+fn run_halves<W, A, J: Crew<W, A>, R: Wait>(
+    rt: &R,
+    crew: &J,
+    left: &mut [W],
+    hand: &mut A,
+    right: &mut [W],
+    other: &mut A,
+    came: (
+        Option<Result<(), AllocError>>,
+        Option<Result<(), AllocError>>,
+    ),
+) -> Option<Result<(), AllocError>>
+    requires ready { J.ready crew.now }
+    requires left { came.0 ≡ None → J.begins crew.now (part left.old hand.old) }
+    requires right { came.1 ≡ None → J.begins crew.now (part right.old other.old) }
+    ensures { (l r : Part W A) → MayHaveRun (J.ran crew.now) l (part left.old hand.old) came.0
+        → MayHaveRun (J.ran crew.now) r (part right.old other.old) came.1
+        → HalvesMayHaveRun (J.ran crew.now) l (part left.new hand.new) r (part right.new other.new) result }
+{
+    match came {
+        (None, None) => None,
+        (first, second) => {
+            let first = run_still(rt, crew, left, hand, first);
+            let second = run_still(rt, crew, right, other, second);
+            Some(first.and(second))
+        }
+    }
+}
+
+// Has a part take turns on the caller's thread that has not run yet.
+fn run_still<W, A, J: Crew<W, A>, R: Wait>(
+    rt: &R,
+    crew: &J,
+    workers: &mut [W],
+    hand: &mut A,
+    came: Option<Result<(), AllocError>>,
+) -> Result<(), AllocError>
+    requires ready { J.ready crew.now }
+    requires begins { came ≡ None → J.begins crew.now (part workers.old hand.old) }
+    ensures { (old : Part W A)
+        → MayStillRun (J.begins crew.now) (J.ran crew.now) old (part workers.old hand.old) came
+        → J.ran crew.now old (part workers.new hand.new) result }
+{
+    match came {
+        Some(answer) => answer,
+        None => crew.run_alone(rt, workers, hand),
+    }
 }

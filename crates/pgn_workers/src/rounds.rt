@@ -52,11 +52,10 @@ fn take_rounds<
     job.work.laws();
     let mut waits = 0;
     for _ in rt.forever() {
-        let turn = take_round(job, workers, hand)?;
-        if turn == Turn::Ended {
-            return Ok(());
+        match take_round(job, workers, hand)? {
+            Turn::Ended => return Ok(()),
+            turn => waits = wait_behind(job, workers, hand, turn, waits),
         }
-        waits = wait_behind(job, workers, hand, turn, waits);
     }
     unreachable!()
 }
@@ -79,10 +78,11 @@ fn wait_behind<
     ensures ready { All (C.ready job.now.work) workers.new }
 {
     job.work.laws();
-    if turn == Turn::Did {
-        return 0;
-    }
-    let heard = turn == Turn::Heard;
+    let heard = match turn {
+        Turn::Did => return 0,
+        Turn::Heard => true,
+        Turn::Waited | Turn::Ended => false,
+    };
     make_pause(job, workers, hand, Pause { heard, waits })
 }
 

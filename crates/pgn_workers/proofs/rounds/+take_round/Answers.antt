@@ -23,3 +23,8 @@ returns-clause-ready g t c =
     let ready = g.C.Work.ready c.args.job.now.work in
     both-ok c.take_round-first.result c.take_round-second.result c.both_turns.result (All ready c.take_round-first.new.workers) (All ready c.take_round-second.new.workers) (All ready (c.take_round-first.new.workers ++ c.take_round-second.new.workers))
     (λ first second. All-append ready c.take_round-first.new.workers c.take_round-second.new.workers first second) c.both_turns.ensures.done c.take_round-first.ensures.ready c.take_round-second.ensures.ready
+
+pub returns-clause-over : goal.returns-clause-over
+returns-clause-over g t c = λ ended.
+    let both = c.both_turns.ensures.ended ended in
+    All-append (g.C.Work.over c.args.job.now.work) c.take_round-first.new.workers c.take_round-second.new.workers (c.take_round-first.ensures.over both.0) (c.take_round-second.ensures.over both.1)
