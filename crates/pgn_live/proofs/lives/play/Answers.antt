@@ -30,6 +30,3 @@ run-requires-clause-job g c κs within =
       end_may = λ ws h rounds old taken. (part-held is_own shape known outlet old ws.now h.now rounds taken.turns, (search rules, search rules, search rules));
       end_does = λ ws ws_new h h_new rounds answer old taken gone. part-ended is_own shape known outlet old ws.now ws_new.now h.now h_new.now rounds answer taken gone.1.0 gone.1.1;
     }
-
-pub run-requires-clause-begins : goal.run-requires-clause-begins
-run-requires-clause-begins g c κs within = record { own = c.requires.own; may = c.requires.may; none = c.requires.none }

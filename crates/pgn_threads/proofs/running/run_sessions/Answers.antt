@@ -17,6 +17,3 @@ run-requires-clause-job g c κs within =
       end_may = λ ws h rounds old taken. (held-after is_own shape known old.workers ws.now rounds taken.turns, (search rules, search rules));
       end_does = λ ws ws_new h h_new rounds answer old taken gone. ended is_own shape known old.workers ws.now ws_new.now rounds answer taken.turns taken.all_over taken.some gone.1;
     }
-
-pub run-requires-clause-begins : goal.run-requires-clause-begins
-run-requires-clause-begins g c κs within = c.requires.ready
