@@ -212,7 +212,7 @@ Reads-refused most at a b inboxes callers h on = record {
   asked = firsts_now most h.frames inboxes callers h.asked on;
 }
 
--- until there are no more, or the source failed
+-- where no frame comes next, all was read
 pub Reads-end : (most at : ℕ) (a b c : Option (List ℕ)) (inboxes : List (Outlet (Option Ask))) (callers : List Caller) → Reads most at a b inboxes callers → OfKnown (NextFrame (length callers) at Over) b c
     → ReadsAll most a inboxes callers None
 Reads-end most at a b c inboxes callers h k = record { frames = h.frames; are = before_end (length callers) at h.frames a b c h.are k; asked = h.asked }
