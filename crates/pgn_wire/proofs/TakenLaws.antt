@@ -29,6 +29,10 @@ use Rattle.pgn_messages.proofs.GrowLaws.{query_answers, others_are_silent}
 use Rattle.pgn_messages.proofs.RestLaws.{line_is_put_in, one_line_begins}
 use Rattle.pgn_wire.specs.Serving.{HasStopped, HasTaken}
 
+-- a session whose script was fed has its pass still
+pub fed-own : {P : Type 0} (is_own : P → Type 0) (old new : Session P) (line : ScriptLine) → new ≡ record old { section = fed old.section line } → is_own old.pass → is_own new.pass
+fed-own {P} is_own old new line e h = subst (λ (s : Session P). is_own s.pass) (sym e) h
+
 -- a line more changes no message of an open session
 pub put-in : {P : Type 0} (shape : Shape) (known : P → Known) (old : Session P) (line : ScriptLine) → IsOpen old → HasRest shape known old
     → messages (fed old.section line) old.items.items ≡ messages old.section old.items.items

@@ -15,13 +15,22 @@ use Rattle.pgn_session.specs.declared.session.Session.{Session}
 use Rattle.pgn_session.specs.declared.doing.Doing.TheVariants.{Lines}
 use Rattle.pgn_session.specs.Whole.{HasRest}
 use Rattle.pgn_session.specs.Feed.{fed}
-use Rattle.pgn_session.specs.Open.{HasStood, IsOpen, IsSameClient}
+use Rattle.pgn_session.specs.Open.{HasReadOutside, HasStood, IsOpen, IsSameClient}
+use Rattle.pgn_session.specs.Standing.{IsServedBy}
 use Rattle.pgn_queries.specs.declared.wire_fault.WireFault.{WireFault}
 use Rattle.pgn_queries.specs.Client.{OfKnown}
 use Rattle.pgn_queries.specs.Queries.{Place, QueriesAre, queries}
 use Rattle.pgn_messages.specs.Messages.{answer_messages, messages}
 use Rattle.pgn_wire.specs.declared.wire_end.WireEnd.{WireEnd}
 use Rattle.pgn_wire.specs.declared.wire_end.WireEnd.TheVariants.{Bad, Read, Write, Memory}
+
+-- a session that may take a query: its script is open, it left no read out, and outside a block it has read up to what it was told of
+pub record IsReady {P : Type 0} (is_own : P → Type 0) (shape : Shape) (known : P → Known) (s : Session P) : Type 0 where
+  pub own : is_own s.pass
+  pub served : IsServedBy shape s.section s.plan
+  pub rested : HasRest shape known s
+  pub read_up : HasReadOutside known s
+  pub is_open : IsOpen s
 
 -- each query that was asked has its whole answer, and no read was left out: but for the `\quit` the script is done
 pub record HasAnsweredAll {P : Type 0} (shape : Shape) (known : P → Known) (s : Session P) : Type 0 where

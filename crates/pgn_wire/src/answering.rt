@@ -4,10 +4,9 @@ ghost use Rattle.pgn_base.specs.Outside.{Rose};
 ghost use Rattle.pgn_language.specs.declared.scenario.Act.TheVariants.{Run};
 ghost use Rattle.pgn_language.specs.Inputs.{note_lines_of};
 ghost use Rattle.pgn_messages.specs.Messages.{answer_messages, messages};
-ghost use Rattle.pgn_session.specs.Standing.{IsServedBy};
 ghost use Rattle.pgn_session.specs.Whole.{HasRest};
-ghost use Rattle.pgn_session.specs.Open.{HasReadOutside, HasStood, IsFedOrNot, IsOpen, IsSameClient, RunsCommand};
-ghost use Rattle.pgn_wire.specs.Serving.{AreWhole, HasTaken, HasWritten};
+ghost use Rattle.pgn_session.specs.Open.{HasReadOutside, HasStood, IsFedOrNot, IsSameClient, RunsCommand};
+ghost use Rattle.pgn_wire.specs.Serving.{AreWhole, HasTaken, HasWritten, IsReady};
 
 use crate::WireEnd;
 use crate::host::Host;
@@ -27,11 +26,8 @@ pub(crate) fn one_query<P: PassView + Send + Drop, H: Hub<Pass = P>, R: Wait, K:
     line: ScriptLine,
     sink: &mut K,
 ) -> Result<(), WireEnd>
-    requires own { H.is_pass host.now.hub.now session.old.pass }
-    requires served { IsServedBy (H.shape host.now.hub.now) session.old.section session.old.plan }
-    requires rested { HasRest (H.shape host.now.hub.now) P.known session.old }
-    requires read_up { HasReadOutside P.known session.old }
-    requires between { IsOpen session.old }
+    requires ready { IsReady (H.is_pass host.now.hub.now) (H.shape host.now.hub.now) P.known
+        session.old }
     requires runs { RunsCommand line }
     requires few { note_lines_of (line ∷ []) + note_lines_of session.old.section.lines
         ≤ session.old.section.note_lines }
@@ -67,11 +63,8 @@ fn answered<P: PassView + Send + Drop, H: Hub<Pass = P>, R: Wait>(
     session: &mut Session<P>,
     line: ScriptLine,
 ) -> Result<Bytes, AllocError>
-    requires own { H.is_pass host.now.hub.now session.old.pass }
-    requires served { IsServedBy (H.shape host.now.hub.now) session.old.section session.old.plan }
-    requires rested { HasRest (H.shape host.now.hub.now) P.known session.old }
-    requires read_up { HasReadOutside P.known session.old }
-    requires between { IsOpen session.old }
+    requires ready { IsReady (H.is_pass host.now.hub.now) (H.shape host.now.hub.now) P.known
+        session.old }
     requires runs { RunsCommand line }
     requires few { note_lines_of (line ∷ []) + note_lines_of session.old.section.lines
         ≤ session.old.section.note_lines }

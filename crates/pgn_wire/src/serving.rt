@@ -3,8 +3,8 @@ ghost use Rattle.pgn_language.specs.declared.scenario.ScriptLine.{ScriptLine};
 ghost use Rattle.pgn_base.specs.Outside.{Rose};
 ghost use Rattle.pgn_session.specs.Standing.{IsServedBy};
 ghost use Rattle.pgn_session.specs.Whole.{HasRest};
-ghost use Rattle.pgn_session.specs.Open.{BeginsEmpty, HasReadOutside, HasStood, IsOpen, IsSameClient};
-ghost use Rattle.pgn_wire.specs.Serving.{AsksBy, HasAnsweredAll, HasEnded, HasWritten, WhereAsked};
+ghost use Rattle.pgn_session.specs.Open.{BeginsEmpty, HasStood, IsSameClient};
+ghost use Rattle.pgn_wire.specs.Serving.{AsksBy, HasAnsweredAll, HasEnded, HasWritten, IsReady, WhereAsked};
 
 use crate::WireEnd;
 use crate::host::Host;
@@ -70,17 +70,13 @@ fn converse<P: PassView + Send + Drop, H: Hub<Pass = P>, R: Wait, S: Source, K: 
     source: &mut S,
     sink: &mut K,
 ) -> Result<(), WireEnd>
-    requires own { H.is_pass host.now.hub.now session.old.pass }
-    requires served { IsServedBy (H.shape host.now.hub.now) session.old.section session.old.plan }
-    requires rested { HasRest (H.shape host.now.hub.now) P.known session.old }
-    requires read_up { HasReadOutside P.known session.old }
+    requires ready { IsReady (H.is_pass host.now.hub.now) (H.shape host.now.hub.now) P.known
+        session.old }
     requires begins { BeginsEmpty session.old }
     ensures own { H.is_pass host.now.hub.now session.new.pass }
     ensures stood { HasStood (H.shape host.now.hub.now) P.known session.new }
-    ensures between { OnOk result (IsOpen session.new) }
-    ensures served { OnOk result (IsServedBy (H.shape host.now.hub.now) session.new.section
-        session.new.plan) }
-    ensures rested { OnOk result (HasRest (H.shape host.now.hub.now) P.known session.new) }
+    ensures ready { OnOk result (IsReady (H.is_pass host.now.hub.now) (H.shape host.now.hub.now)
+        P.known session.new) }
     ensures answered { IfErr result (λ end. WhereAsked end
         (HasAnsweredAll (H.shape host.now.hub.now) P.known session.new)) }
     ensures ended { HasEnded result session.old session.new (S.left source.old) (K.held sink.old)

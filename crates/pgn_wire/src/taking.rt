@@ -1,10 +1,9 @@
 ghost use Rattle.std.specs.Prelude.{◌≡◌, ◌+◌, ◌≤◌, [], ◌∷◌, OnOk, OnErr};
 ghost use Rattle.pgn_language.specs.Inputs.{note_lines_of};
-ghost use Rattle.pgn_session.specs.Standing.{IsServedBy};
 ghost use Rattle.pgn_session.specs.Parts.{Begins};
 ghost use Rattle.pgn_session.specs.Whole.{HasAnswer, HasRest};
-ghost use Rattle.pgn_session.specs.Open.{HasReadOutside, HasStood, IsFedOrNot, IsOpen, IsSameClient, RunsCommand};
-ghost use Rattle.pgn_wire.specs.Serving.{HasStopped, HasTaken};
+ghost use Rattle.pgn_session.specs.Open.{HasReadOutside, HasStood, IsFedOrNot, IsSameClient, RunsCommand};
+ghost use Rattle.pgn_wire.specs.Serving.{HasStopped, HasTaken, IsReady};
 
 use pgn_answers::BlockState;
 use pgn_hub::{Hub, PassView};
@@ -21,11 +20,7 @@ pub(crate) fn take_query<P: PassView + Send + Drop, H: Hub<Pass = P>, R: Wait>(
     session: &mut Session<P>,
     line: ScriptLine,
 ) -> Result<(), AllocError>
-    requires own { H.is_pass hub.now session.old.pass }
-    requires served { IsServedBy (H.shape hub.now) session.old.section session.old.plan }
-    requires rested { HasRest (H.shape hub.now) P.known session.old }
-    requires read_up { HasReadOutside P.known session.old }
-    requires between { IsOpen session.old }
+    requires ready { IsReady (H.is_pass hub.now) (H.shape hub.now) P.known session.old }
     requires runs { RunsCommand line }
     requires few { note_lines_of (line ∷ []) + note_lines_of session.old.section.lines
         ≤ session.old.section.note_lines }
@@ -61,25 +56,6 @@ fn read_behind<P: PassView + Send + Drop, H: Hub<Pass = P>>(
     ensures read_up { OnOk result (HasReadOutside P.known session.new) }
 {
     let _done = session.idle(alloc, hub)?;
-    read_up(alloc, hub, session)
-}
-
-// Reads outside a block, with the set as it is.
-fn read_up<P: PassView + Send + Drop, H: Hub<Pass = P>>(
-    alloc: Global,
-    hub: &H,
-    session: &mut Session<P>,
-) -> Result<(), AllocError>
-    requires own { H.is_pass hub.now session.old.pass }
-    requires between { session.old.doing ≡ Doing.Lines }
-    requires rested { HasRest (H.shape hub.now) P.known session.old }
-    ensures own { H.is_pass hub.now session.new.pass }
-    ensures same { session.new
-        ≡ record session.old { pass = session.new.pass; items = session.new.items } }
-    ensures grows { Begins session.old.items.items session.new.items.items }
-    ensures rested { HasRest (H.shape hub.now) P.known session.new }
-    ensures read_up { OnOk result (HasReadOutside P.known session.new) }
-{
     if session.block.state() != BlockState::Idle {
         return Ok(());
     }

@@ -5,10 +5,8 @@ ghost use Rattle.pgn_queries.specs.declared.wire_fault.WireFault.{WireFault};
 ghost use Rattle.pgn_queries.specs.Client.{OfKnown};
 ghost use Rattle.pgn_queries.specs.Queries.{Gives, HasPassed, QueriesAre};
 ghost use Rattle.pgn_session.specs.declared.session.Session.{Session};
-ghost use Rattle.pgn_session.specs.Standing.{IsServedBy};
-ghost use Rattle.pgn_session.specs.Whole.{HasRest};
-ghost use Rattle.pgn_session.specs.Open.{HasReadOutside, HasStood, IsOpen};
-ghost use Rattle.pgn_wire.specs.Serving.{HasAnsweredAll, IsServing, TurnsInto, WhereAsked};
+ghost use Rattle.pgn_session.specs.Open.{HasStood};
+ghost use Rattle.pgn_wire.specs.Serving.{HasAnsweredAll, IsReady, IsServing, TurnsInto, WhereAsked};
 
 use crate::WireEnd;
 use crate::answering::one_query;
@@ -29,20 +27,14 @@ pub(crate) fn take_turn<P: PassView + Send + Drop, H: Hub<Pass = P>, R: Wait, S:
     source: &mut S,
     sink: &mut K,
 ) -> Result<bool, WireEnd>
-    requires own { H.is_pass host.now.hub.now session.old.pass }
-    requires served { IsServedBy (H.shape host.now.hub.now) session.old.section session.old.plan }
-    requires rested { HasRest (H.shape host.now.hub.now) P.known session.old }
-    requires read_up { HasReadOutside P.known session.old }
-    requires between { IsOpen session.old }
+    requires ready { IsReady (H.is_pass host.now.hub.now) (H.shape host.now.hub.now) P.known
+        session.old }
     requires notes { note_lines_of session.old.section.lines ≡ queries.old.notes }
     requires most { queries.old.most ≡ session.old.section.note_lines }
     ensures own { H.is_pass host.now.hub.now session.new.pass }
     ensures stood { HasStood (H.shape host.now.hub.now) P.known session.new }
-    ensures between { OnOk result (IsOpen session.new) }
-    ensures served { OnOk result (IsServedBy (H.shape host.now.hub.now) session.new.section
-        session.new.plan) }
-    ensures rested { OnOk result (HasRest (H.shape host.now.hub.now) P.known session.new) }
-    ensures read_up { OnOk result (HasReadOutside P.known session.new) }
+    ensures ready { OnOk result (IsReady (H.is_pass host.now.hub.now) (H.shape host.now.hub.now)
+        P.known session.new) }
     ensures answered { IfErr result (λ end. WhereAsked end
         (HasAnsweredAll (H.shape host.now.hub.now) P.known session.new)) }
     ensures counted { result ≡ Ok true → queries.new.queries ≡ queries.old.queries + 1 }

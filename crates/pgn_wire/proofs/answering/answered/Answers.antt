@@ -5,7 +5,7 @@ use Rattle.pgn_wire.proofs.WrittenLaws.{answer-made, on_made, same-whole, some-b
 use Rattle.pgn_wire.proofs.answering.answered.Goals as goal
 
 pub returns-in_default-clause-stood : goal.returns-in_default-clause-stood
-returns-in_default-clause-stood g c = stood-rest (g.H.Hub.shape c.args.host.now.hub.now) g.P.PassView.known c.args.session.now c.requires.rested
+returns-in_default-clause-stood g c = stood-rest (g.H.Hub.shape c.args.host.now.hub.now) g.P.PassView.known c.args.session.now c.requires.ready.rested
 
 pub returns-in_default-clause-script : goal.returns-in_default-clause-script
 returns-in_default-clause-script g c = inl refl

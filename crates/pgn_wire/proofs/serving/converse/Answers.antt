@@ -10,10 +10,7 @@ loop-query-init g c =
     let left = g.S.Source.left c.args.source.now in
     let held = g.K.Sink.held c.args.sink.now in
     record {
-      own = c.requires.own;
-      served = c.requires.served;
-      rested = c.requires.rested;
-      read_up = c.requires.read_up;
+      ready = c.requires.ready;
       serving = subst (λ (place : Place). IsServing s s place left left held held) (sym c.new-queries.ensures) (serving-begins s left held c.requires.begins);
       counted = ap (λ (place : Place). place.queries) c.new-queries.ensures;
       few = (let none : c.new-queries.result.queries ≡ 0 = ap (λ (place : Place). place.queries) c.new-queries.ensures in omega (arith, none));
@@ -21,8 +18,8 @@ loop-query-init g c =
       sink = refl;
     }
 
-pub take_turn-requires-clause-between : goal.take_turn-requires-clause-between
-take_turn-requires-clause-between g c κs within = c.loop-query.invariant.serving.is_open
+pub take_turn-requires-clause-ready : goal.take_turn-requires-clause-ready
+take_turn-requires-clause-ready g c κs within = c.loop-query.invariant.ready
 
 pub take_turn-requires-clause-notes : goal.take_turn-requires-clause-notes
 take_turn-requires-clause-notes g c κs within = c.loop-query.invariant.serving.notes
@@ -37,10 +34,7 @@ loop-query-preserved g c =
     let held = g.K.Sink.held c.args.sink.now in
     let went : c.in-Ok-true.field-0 ≡ true = search rules in
     record {
-      own = c.take_turn.ensures.own;
-      served = c.in-Ok-true.ensures.served;
-      rested = c.in-Ok-true.ensures.rested;
-      read_up = c.in-Ok-true.ensures.read_up;
+      ready = c.in-Ok-true.ensures.ready;
       serving = went-on c.in-Ok-true.field-0 first c.take_turn.new.session c.take_turn.new.queries left (g.S.Source.left c.take_turn.new.source) held (g.K.Sink.held c.take_turn.new.sink) went
           (c.in-Ok-true.ensures.turned first left held c.loop-query.invariant.serving);
       counted = c.in-Ok-true.ensures.counted (ap Ok went) ∙ ap (λ (n : ℕ). n + 1) c.loop-query.invariant.counted;

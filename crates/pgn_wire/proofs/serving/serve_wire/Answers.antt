@@ -1,12 +1,30 @@
 use Rattle.std.proofs.Common.{List, ℕ, refl, subst, sym}
 use Rattle.std.specs.Io.KnownBytes.{Appends}
-use Rattle.pgn_session.proofs.OpenLaws.{begins-read, quit-same, stood-rest}
+use Rattle.pgn_session.proofs.OpenLaws.{begins-open, begins-read, quit-same, stood-rest}
 use Rattle.pgn_wire.proofs.ServingLaws.{quit-asked, quit-unasked}
 use Rattle.pgn_wire.proofs.WrittenLaws.{stopped-wrote}
 use Rattle.pgn_wire.proofs.serving.serve_wire.Goals as goal
 
-pub converse-requires-clause-read_up : goal.converse-requires-clause-read_up
-converse-requires-clause-read_up g c κs within = begins-read (g.H.Hub.shape c.args.hub.now) g.P.PassView.known c.args.session.now c.requires.rested c.requires.begins
+pub converse-requires-clause-ready : goal.converse-requires-clause-ready
+converse-requires-clause-ready g c κs within = record {
+  own = c.requires.own;
+  served = c.requires.served;
+  rested = c.requires.rested;
+  read_up = begins-read (g.H.Hub.shape c.args.hub.now) g.P.PassView.known c.args.session.now c.requires.rested c.requires.begins;
+  is_open = begins-open c.args.session.now c.requires.begins;
+}
+
+pub quit-requires-clause-own : goal.quit-requires-clause-own
+quit-requires-clause-own g c κs within = c.in-Ok.ensures.ready.own
+
+pub quit-requires-clause-served : goal.quit-requires-clause-served
+quit-requires-clause-served g c κs within = c.in-Ok.ensures.ready.served
+
+pub quit-requires-clause-rested : goal.quit-requires-clause-rested
+quit-requires-clause-rested g c κs within = c.in-Ok.ensures.ready.rested
+
+pub quit-requires-clause-between : goal.quit-requires-clause-between
+quit-requires-clause-between g c κs within = c.in-Ok.ensures.ready.is_open
 
 pub returns-in-Ok-quit-clause-same : goal.returns-in-Ok-quit-clause-same
 returns-in-Ok-quit-clause-same g c = quit-same c.args.session.now c.converse.new.session c.quit.new.session c.in-Ok.ensures.ended.same c.quit.ensures.same

@@ -13,14 +13,20 @@ one_query-requires-clause-few g c κs within =
     passed-few c.args.queries.now c.next_query.new.queries c.in-Ok-Some.line c.args.session.now.section.lines c.args.session.now.section.note_lines
     (some-passed c.args.queries.now c.next_query.new.queries c.in-Ok-Some.field-0 c.in-Ok-Some.line c.in-Ok-Some.field-0-is c.in-Ok-Some.ensures.passed) c.requires.notes c.requires.most
 
-pub returns-in-Ok-clause-between : goal.returns-in-Ok-clause-between
-returns-in-Ok-clause-between g c = taken-open c.args.session.now c.one_query.new.session c.in-Ok-Some.line c.requires.between c.in-Ok.ensures.taken
-
-pub returns-in-Ok-clause-served : goal.returns-in-Ok-clause-served
-returns-in-Ok-clause-served g c =
+pub returns-in-Ok-clause-ready : goal.returns-in-Ok-clause-ready
+returns-in-Ok-clause-ready g c =
     let passed = some-passed c.args.queries.now c.next_query.new.queries c.in-Ok-Some.field-0 c.in-Ok-Some.line c.in-Ok-Some.field-0-is c.in-Ok-Some.ensures.passed in
-    taken-served (g.H.Hub.shape c.args.host.now.hub.now) c.args.session.now c.one_query.new.session c.in-Ok-Some.line c.requires.between (passed-runs c.args.queries.now c.next_query.new.queries c.in-Ok-Some.line passed) c.in-Ok.ensures.taken
-    c.one_query.ensures.same c.requires.served
+    record {
+      own = c.one_query.ensures.own;
+      served = taken-served (g.H.Hub.shape c.args.host.now.hub.now) c.args.session.now c.one_query.new.session c.in-Ok-Some.line c.requires.ready.is_open (passed-runs c.args.queries.now c.next_query.new.queries c.in-Ok-Some.line passed) c.in-Ok.ensures.taken
+          c.one_query.ensures.same c.requires.ready.served;
+      rested = c.in-Ok.ensures.rested;
+      read_up = c.in-Ok.ensures.read_up;
+      is_open = taken-open c.args.session.now c.one_query.new.session c.in-Ok-Some.line c.requires.ready.is_open c.in-Ok.ensures.taken;
+    }
+
+pub returns-in-Ok-None-clause-ready : goal.returns-in-Ok-None-clause-ready
+returns-in-Ok-None-clause-ready g c = c.requires.ready
 
 pub returns-in-Ok-clause-counted : goal.returns-in-Ok-clause-counted
 returns-in-Ok-clause-counted g c =
@@ -54,7 +60,7 @@ returns-in-Err-one_query-clause-turned g c =
     c.one_query.ensures.same c.in-Err-one_query.ensures.written h
 
 pub returns-in-Ok-None-clause-stood : goal.returns-in-Ok-None-clause-stood
-returns-in-Ok-None-clause-stood g c = stood-rest (g.H.Hub.shape c.args.host.now.hub.now) g.P.PassView.known c.args.session.now c.requires.rested
+returns-in-Ok-None-clause-stood g c = stood-rest (g.H.Hub.shape c.args.host.now.hub.now) g.P.PassView.known c.args.session.now c.requires.ready.rested
 
 pub returns-in-Ok-None-clause-turned : goal.returns-in-Ok-None-clause-turned
 returns-in-Ok-None-clause-turned g c =
@@ -73,4 +79,4 @@ pub returns-in-Err-one_query-clause-answered : goal.returns-in-Err-one_query-cla
 returns-in-Err-one_query-clause-answered g c = never-asked c.in-Err-one_query.end _ c.in-Err-one_query.ensures.ends
 
 pub returns-in-Err-clause-answered : goal.returns-in-Err-clause-answered
-returns-in-Err-clause-answered g c = where-asked c.in-Err.end _ (record { is_open = c.requires.between; rested = c.requires.rested })
+returns-in-Err-clause-answered g c = where-asked c.in-Err.end _ (record { is_open = c.requires.ready.is_open; rested = c.requires.ready.rested })
