@@ -18,7 +18,7 @@ use Rattle.pgn_session.specs.declared.doing.IdleDone.{IdleDone}
 use Rattle.pgn_session.specs.Whole.{HasAnswer, HasRest, IsSameScript}
 use Rattle.pgn_session.specs.Parts.{Begins, HasIdled}
 use Rattle.pgn_session.specs.Feed.{fed}
-use Rattle.pgn_session.specs.Open.{HasStood, IsBefore, IsOpen, RunsCommand}
+use Rattle.pgn_session.specs.Open.{HasStood, IsBefore, IsOpen, IsSameClient, RunsCommand}
 use Rattle.pgn_session.proofs.FeedLaws.{fed-split}
 use Rattle.pgn_session.proofs.OpenLaws.{before-rest, fed-before, open-rest, rested-block, stood-answer, stood-rest}
 use Rattle.pgn_session.proofs.LineTakenLaws.{LineMoved, Moves, line-moved, line-open}
@@ -32,6 +32,46 @@ use Rattle.pgn_wire.specs.Serving.{HasStopped, HasTaken}
 -- a session whose script was fed has its pass still
 pub fed-own : {P : Type 0} (is_own : P → Type 0) (old new : Session P) (line : ScriptLine) → new ≡ record old { section = fed old.section line } → is_own old.pass → is_own new.pass
 fed-own {P} is_own old new line e h = subst (λ (s : Session P). is_own s.pass) (sym e) h
+
+-- what holds anyhow
+pub on_ok : {T E : Type 0} (r : Result T E) (P : Type 0) → P → OnOk r P
+on_ok (Ok x) P p = p
+on_ok (Err e) P p = tt
+
+-- what holds of a session whose script was fed, or was not
+pub fed-section : {P : Type 0} (old new : Session P) (line : ScriptLine) → new ≡ record old { section = fed old.section line } → new.section ≡ fed old.section line
+fed-section {P} old new line e = ap (λ (s : Session P). s.section) e
+
+pub client-fed : {P : Type 0} (old new : Session P) (line : ScriptLine) → new ≡ record old { section = fed old.section line } → IsSameClient old new
+client-fed {P} old new line e = record {
+  section = ap (λ (s : Session P). s.section) e ∙ ap (λ (ls : List ScriptLine). record old.section { lines = ls }) (sym (ap (λ (s : Session P). s.section.lines) e));
+  plan = ap (λ (s : Session P). s.plan) e;
+  patience = ap (λ (s : Session P). s.patience) e;
+}
+
+pub client-same : {P : Type 0} (old new : Session P) → new ≡ old → IsSameClient old new
+client-same {P} old new e = subst (λ (s : Session P). IsSameClient old s) (sym e) (record { section = refl; plan = refl; patience = refl })
+
+pub not-fed : {P : Type 0} (shape : Shape) (known : P → Known) (old new : Session P) → new ≡ old → HasRest shape known old → HasStopped shape known old new
+not-fed {P} shape known old new e rested =
+    subst (λ (s : Session P). HasStopped shape known old s) (sym e) (record { stood = stood-rest shape known old rested; behind = []; shown = sym (append-nil old.items.items); line = tt; same = refl })
+
+pub same-section : {P : Type 0} (old new : Session P) → new ≡ old → new.section ≡ old.section
+same-section {P} old new e = ap (λ (s : Session P). s.section) e
+
+-- of one that has read
+pub read-section : {P : Type 0} (old new : Session P) → new ≡ record old { pass = new.pass; items = new.items } → new.section ≡ old.section
+read-section {P} old new e = ap (λ (s : Session P). s.section) e
+
+pub client-read : {P : Type 0} (old mid new : Session P) → IsSameClient old mid → new ≡ record mid { pass = new.pass; items = new.items } → IsSameClient old new
+client-read {P} old mid new h e = record {
+  section = ap (λ (s : Session P). s.section) e ∙ h.section ∙ ap (λ (ls : List ScriptLine). record old.section { lines = ls }) (sym (ap (λ (s : Session P). s.section.lines) e));
+  plan = ap (λ (s : Session P). s.plan) e ∙ h.plan;
+  patience = ap (λ (s : Session P). s.patience) e ∙ h.patience;
+}
+
+pub read-both : {P : Type 0} (old mid new : Session P) → mid ≡ record old { pass = mid.pass; items = mid.items } → new ≡ record mid { pass = new.pass; items = new.items } → new ≡ record old { pass = new.pass; items = new.items }
+read-both {P} old mid new h e = e ∙ ap (λ (s : Session P). record s { pass = new.pass; items = new.items }) h
 
 -- a line more changes no message of an open session
 pub put-in : {P : Type 0} (shape : Shape) (known : P → Known) (old : Session P) (line : ScriptLine) → IsOpen old → HasRest shape known old

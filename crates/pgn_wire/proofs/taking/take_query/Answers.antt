@@ -1,5 +1,6 @@
-use Rattle.pgn_session.proofs.OpenLaws.{fed-read}
-use Rattle.pgn_wire.proofs.TakenLaws.{fed-own, on_err, query-between, query-taken, step-refused, read-refused}
+use Rattle.std.proofs.Common.{inl, inr, ◌∙◌}
+use Rattle.pgn_session.proofs.OpenLaws.{fed-read, fed-runs_served, quit-same}
+use Rattle.pgn_wire.proofs.TakenLaws.{client-fed, client-read, client-same, fed-own, fed-section, not-fed, on_err, query-between, query-taken, read-refused, read-section, same-section, step-refused}
 use Rattle.pgn_wire.proofs.taking.take_query.Goals as goal
 
 pub feed-requires-clause-quits : goal.feed-requires-clause-quits
@@ -7,6 +8,11 @@ feed-requires-clause-quits g c κs within = c.requires.ready.is_open.ends
 
 pub feed-requires-clause-place : goal.feed-requires-clause-place
 feed-requires-clause-place g c κs within = c.requires.ready.is_open.between
+
+pub step-requires-clause-served : goal.step-requires-clause-served
+step-requires-clause-served g c κs within =
+    fed-runs_served (g.H.Hub.shape c.args.hub.now) c.args.session.now c.feed.new.self c.args.line c.requires.ready.is_open c.requires.runs (fed-section c.args.session.now c.feed.new.self c.args.line c.in_ok-feed.ensures.fed)
+    (client-fed c.args.session.now c.feed.new.self c.args.line c.in_ok-feed.ensures.fed) c.requires.ready.served
 
 pub step-requires-clause-own : goal.step-requires-clause-own
 step-requires-clause-own g c κs within = fed-own (g.H.Hub.is_pass c.args.hub.now) c.args.session.now c.feed.new.self c.args.line c.in_ok-feed.ensures.fed c.requires.ready.own
@@ -16,6 +22,37 @@ step-requires-clause-rested g c κs within = c.in_ok-feed.ensures.rested (g.H.Hu
 
 pub step-requires-clause-read_first : goal.step-requires-clause-read_first
 step-requires-clause-read_first g c κs within = fed-read g.P.PassView.known c.args.session.now c.feed.new.self c.args.line c.in_ok-feed.ensures.fed c.requires.ready.read_up
+
+pub returns-in_err-feed-clause-same : goal.returns-in_err-feed-clause-same
+returns-in_err-feed-clause-same g c = client-same c.args.session.now c.feed.new.self c.in_err-feed.ensures.unchanged
+
+pub returns-in_err-feed-clause-stopped : goal.returns-in_err-feed-clause-stopped
+returns-in_err-feed-clause-stopped g c = on_err c.from_residual.result _ (not-fed (g.H.Hub.shape c.args.hub.now) g.P.PassView.known c.args.session.now c.feed.new.self c.in_err-feed.ensures.unchanged c.requires.ready.rested)
+
+pub returns-in_err-feed-clause-script : goal.returns-in_err-feed-clause-script
+returns-in_err-feed-clause-script g c = on_err c.from_residual.result _ (inl (same-section c.args.session.now c.feed.new.self c.in_err-feed.ensures.unchanged))
+
+pub returns-in_err-_step-clause-same : goal.returns-in_err-_step-clause-same
+returns-in_err-_step-clause-same g c = quit-same c.args.session.now c.feed.new.self c.step.new.self (client-fed c.args.session.now c.feed.new.self c.args.line c.in_ok-feed.ensures.fed) c.step.ensures.same
+
+pub returns-in_err-_step-clause-script : goal.returns-in_err-_step-clause-script
+returns-in_err-_step-clause-script g c =
+    on_err c.from_residual-in_err-_step.result _ (inr (c.step.ensures.same.section ∙ fed-section c.args.session.now c.feed.new.self c.args.line c.in_ok-feed.ensures.fed))
+
+pub returns-in_err-read_behind-clause-same : goal.returns-in_err-read_behind-clause-same
+returns-in_err-read_behind-clause-same g c =
+    client-read c.args.session.now c.step.new.self c.read_behind.new.session
+    (quit-same c.args.session.now c.feed.new.self c.step.new.self (client-fed c.args.session.now c.feed.new.self c.args.line c.in_ok-feed.ensures.fed) c.step.ensures.same) c.read_behind.ensures.same
+
+pub returns-in_err-read_behind-clause-script : goal.returns-in_err-read_behind-clause-script
+returns-in_err-read_behind-clause-script g c =
+    on_err c.from_residual-in_err-read_behind.result _
+    (inr (read-section c.step.new.self c.read_behind.new.session c.read_behind.ensures.same ∙ c.step.ensures.same.section ∙ fed-section c.args.session.now c.feed.new.self c.args.line c.in_ok-feed.ensures.fed))
+
+pub returns-clause-same : goal.returns-clause-same
+returns-clause-same g c =
+    client-read c.args.session.now c.step.new.self c.read_behind.new.session
+    (quit-same c.args.session.now c.feed.new.self c.step.new.self (client-fed c.args.session.now c.feed.new.self c.args.line c.in_ok-feed.ensures.fed) c.step.ensures.same) c.read_behind.ensures.same
 
 pub returns-in_err-_step-clause-stopped : goal.returns-in_err-_step-clause-stopped
 returns-in_err-_step-clause-stopped g c =

@@ -1,4 +1,7 @@
-use Rattle.std.proofs.Common.{Some, None, ap}
+use Rattle.std.proofs.Common.{◌≡◌, Bool, Option, Some, None, Result, Err, ap}
+use Rattle.pgn_language.specs.declared.scenario.ScriptLine.{ScriptLine}
+use Rattle.pgn_wire.specs.declared.wire_end.WireEnd.{WireEnd}
+use Rattle.pgn_wire.specs.declared.wire_end.WireEnd.TheVariants.{Read, Write}
 use Rattle.pgn_queries.specs.Queries.{Place}
 use Rattle.pgn_wire.proofs.ServingLaws.{answer-fails, never-asked, passed-few, passed-limit, passed-most, passed-runs, serving-ends, serving-fails, serving-goes, some-gives, some-passed, taken-open, taken-served, where-asked}
 use Rattle.pgn_session.proofs.OpenLaws.{stood-rest}
@@ -80,3 +83,60 @@ returns-in-Err-one_query-clause-answered g c = never-asked c.in-Err-one_query.en
 
 pub returns-in-Err-clause-answered : goal.returns-in-Err-clause-answered
 returns-in-Err-clause-answered g c = where-asked c.in-Err.end _ (record { is_open = c.requires.ready.is_open; rested = c.requires.ready.rested })
+
+pub returns-in-Ok-clause-read : goal.returns-in-Ok-clause-read
+returns-in-Ok-clause-read g c = λ e. let no : ⊥ = cc in absurd no
+
+pub returns-in-Ok-clause-write : goal.returns-in-Ok-clause-write
+returns-in-Ok-clause-write g c = λ e. let no : ⊥ = cc in absurd no
+
+pub returns-in-Ok-clause-source_later : goal.returns-in-Ok-clause-source_later
+returns-in-Ok-clause-source_later g c = c.next_query.ensures.later
+
+pub returns-in-Ok-clause-source_rose : goal.returns-in-Ok-clause-source_rose
+returns-in-Ok-clause-source_rose g c = λ less. let e = c.in-Ok-Some.ensures.rose less in let no : ⊥ = cc in absurd no
+
+pub returns-in-Ok-clause-sink_later : goal.returns-in-Ok-clause-sink_later
+returns-in-Ok-clause-sink_later g c = c.one_query.ensures.later
+
+pub returns-in-Ok-clause-sink_rose : goal.returns-in-Ok-clause-sink_rose
+returns-in-Ok-clause-sink_rose g c = λ less. let e = c.in-Ok.ensures.rose less in let no : ⊥ = cc in absurd no
+
+pub returns-in-Ok-None-clause-read : goal.returns-in-Ok-None-clause-read
+returns-in-Ok-None-clause-read g c = λ e. let no : ⊥ = cc in absurd no
+
+pub returns-in-Ok-None-clause-write : goal.returns-in-Ok-None-clause-write
+returns-in-Ok-None-clause-write g c = λ e. let no : ⊥ = cc in absurd no
+
+pub returns-in-Ok-None-clause-source_later : goal.returns-in-Ok-None-clause-source_later
+returns-in-Ok-None-clause-source_later g c = c.next_query.ensures.later
+
+pub returns-in-Ok-None-clause-source_rose : goal.returns-in-Ok-None-clause-source_rose
+returns-in-Ok-None-clause-source_rose g c = λ less. let e = c.in-Ok-None.ensures.rose less in let no : ⊥ = cc in absurd no
+
+pub returns-in-Err-one_query-clause-write : goal.returns-in-Err-one_query-clause-write
+returns-in-Err-one_query-clause-write g c = λ e. let is : c.in-Err-one_query.end ≡ Write = cc in c.in-Err-one_query.ensures.failed (ap (λ (w : WireEnd). let r : Result (Unit {0}) WireEnd = Err w in r) is)
+
+pub returns-in-Err-one_query-clause-source_later : goal.returns-in-Err-one_query-clause-source_later
+returns-in-Err-one_query-clause-source_later g c = c.next_query.ensures.later
+
+pub returns-in-Err-one_query-clause-source_rose : goal.returns-in-Err-one_query-clause-source_rose
+returns-in-Err-one_query-clause-source_rose g c = λ less. let e = c.in-Ok-Some.ensures.rose less in let no : ⊥ = cc in absurd no
+
+pub returns-in-Err-one_query-clause-sink_later : goal.returns-in-Err-one_query-clause-sink_later
+returns-in-Err-one_query-clause-sink_later g c = c.one_query.ensures.later
+
+pub returns-in-Err-one_query-clause-sink_rose : goal.returns-in-Err-one_query-clause-sink_rose
+returns-in-Err-one_query-clause-sink_rose g c = λ less. let e = c.in-Err-one_query.ensures.rose less in let is : c.in-Err-one_query.end ≡ Write = cc in ap (λ (w : WireEnd). let r : Result Bool WireEnd = Err w in r) is
+
+pub returns-in-Err-clause-read : goal.returns-in-Err-clause-read
+returns-in-Err-clause-read g c = λ e. let is : c.in-Err.end ≡ Read = cc in c.in-Err.ensures.failed (ap (λ (w : WireEnd). let r : Result (Option ScriptLine) WireEnd = Err w in r) is)
+
+pub returns-in-Err-clause-write : goal.returns-in-Err-clause-write
+returns-in-Err-clause-write g c = λ e. let is : c.in-Err.end ≡ Write = cc in absurd (c.in-Err.ensures.other (ap (λ (w : WireEnd). let r : Result (Option ScriptLine) WireEnd = Err w in r) is))
+
+pub returns-in-Err-clause-source_later : goal.returns-in-Err-clause-source_later
+returns-in-Err-clause-source_later g c = c.next_query.ensures.later
+
+pub returns-in-Err-clause-source_rose : goal.returns-in-Err-clause-source_rose
+returns-in-Err-clause-source_rose g c = λ less. let e = c.in-Err.ensures.rose less in let is : c.in-Err.end ≡ Read = cc in ap (λ (w : WireEnd). let r : Result Bool WireEnd = Err w in r) is
