@@ -47,6 +47,10 @@ pub done-first : {P : Type 0} (rest : List ScriptLine) (asks : List Ask) (s : Se
 done-first rest asks s kept tells h =
     record { turns = h.turns; plain = h.plain; asked = h.asked; rest = rest; lines = h.lines; more = []; items = h.items ∙ sym (append-nil (items_of h.turns)); told = h.told }
 
+-- the settings, by another name
+pub done-kept : {P : Type 0} (rest : List ScriptLine) (asks : List Ask) (s : Session P) (kept other : Kept) (tells : Hand Saying) → other ≡ kept → HasDone rest asks s kept tells → HasDone rest asks s other tells
+done-kept {P} rest asks s kept other tells e h = subst (λ (k : Kept). HasDone rest asks s k tells) (sym e) h
+
 -- nothing more was told
 pub first-untold : {P : Type 0} (asks : List Ask) (s : Session P) (before after : Hand Saying) → after ≡ before → HasDoneFirst asks s before → HasDoneFirst asks s after
 first-untold {P} asks s before after e h = subst (λ (v : Hand Saying). HasDoneFirst asks s v) (sym e) h

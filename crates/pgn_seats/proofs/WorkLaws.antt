@@ -4,6 +4,7 @@ use Rattle.std.specs.Prelude.{◌||◌}
 use Rattle.std.specs.List.{list_any}
 use Rattle.std.proofs.lemmas.List.{length-append}
 use Rattle.std.proofs.lemmas.List.Elements.{All-nil, All-cons, All-head, All-tail, All-append}
+use Rattle.pgn_base.specs.declared.command.Command.{Command}
 use Rattle.pgn_language.specs.declared.scenario.Act.TheVariants.{Quit, Run}
 use Rattle.pgn_language.specs.declared.scenario.ScriptLine.{ScriptLine}
 use Rattle.pgn_language.specs.declared.scenario.Section.{Section}
@@ -37,7 +38,8 @@ use Rattle.pgn_turns.specs.declared.asked.Asked.{Asked}
 use Rattle.pgn_turns.specs.Asks.{line_of, seat_quit}
 use Rattle.pgn_turns.specs.Turns.{Turn, IsRead, lines_of}
 use Rattle.pgn_seats.specs.Serving.{HasQuitBehind, IsInTurns}
-use Rattle.pgn_seats.specs.Working.{HasRun, IsAtLine, IsAtWork}
+use Rattle.pgn_seats.specs.declared.desk.Desk.{Desk}
+use Rattle.pgn_seats.specs.Working.{HasQuit, HasRun, IsAtLine, IsAtWork, MayTake}
 
 -- the same client, over each kind of part
 pub client-fed : {P : Type 0} (old new : Session P) (line : ScriptLine) → new ≡ record old { section = fed old.section line } → IsSameClient old new
@@ -78,6 +80,10 @@ no-script old new h = ap (λ (s : Section). s.no) h.section
 -- reading changes none of the lines that notify
 pub notes-read : {P : Type 0} (old new : Session P) → new ≡ record old { pass = new.pass; items = new.items } → note_lines_of old.section.lines ≡ note_lines_of new.section.lines
 notes-read {P} old new e = ap (λ (s : Session P). note_lines_of s.section.lines) (sym e)
+
+-- nor does what leaves the session
+pub same-notes : {P : Type 0} (old new : Session P) → new ≡ old → note_lines_of old.section.lines ≡ note_lines_of new.section.lines
+same-notes {P} old new e = ap (λ (s : Session P). note_lines_of s.section.lines) (sym e)
 
 -- a place in items that have grown
 pub within-grown : (from : ℕ) (before after : List Item) → from ≡ length before → Begins before after → from ≤ length after
@@ -230,7 +236,7 @@ quit-unread None = All-nil (λ (item : Item). IsRead item → ⊥)
 quit-unread (Some n) = All-cons (λ (item : Item). IsRead item → ⊥) Leave [] (λ h. h) (All-nil (λ (item : Item). IsRead item → ⊥))
 
 -- the `\quit` behind turns
-pub quit-behind : {P : Type 0} (shape : Shape) (known : P → Known) (old two new : Session P) (step : Step) (done : IdleDone) → IsOpen old → IsSameScript old two → Moves known old two step
+quit-behind : {P : Type 0} (shape : Shape) (known : P → Known) (old two new : Session P) (step : Step) (done : IdleDone) → IsOpen old → IsSameScript old two → Moves known old two step
     → new ≡ record two { pass = new.pass; items = new.items } → HasIdled shape.format (known two.pass) (known new.pass) two.set.channels two.items.items new.items.items done
     → (turns : List Turn) → IsInTurns old turns → HasQuitBehind new turns
 quit-behind {P} shape known old two new step done is_open same moved e idled turns h =
@@ -247,3 +253,27 @@ quit-behind {P} shape known old two new step done is_open same moved e idled tur
       items = quit.shown ∙ ap (λ (is : List Item). is ++ Line seat_quit.line ∷ quit_items quit.mark) h.items;
       unread = quit-unread quit.mark;
     }
+
+-- a session that has stepped over its `\quit`, and idled, has quit
+pub quit-done : {P : Type 0} (shape : Shape) (known : P → Known) (old two new : Session P) (step : Step) (done : IdleDone) → IsOpen old → IsSameScript old two → Moves known old two step
+    → new ≡ record two { pass = new.pass; items = new.items } → HasIdled shape.format (known two.pass) (known new.pass) two.set.channels two.items.items new.items.items done → HasQuit known old new
+quit-done {P} shape known old two new step done is_open same moved e idled =
+    let quit = quit-taken shape known old two new step done is_open moved e idled in
+    record { over = quit.over; left = quit.left; behind = quit-behind shape known old two new step done is_open same moved e idled }
+
+-- what stays of a desk where a line is put into its session's script
+pub put-asks : {P : Type 0} (old new : Desk P) → new ≡ record old { session = new.session; notes = new.notes } → new.asks ≡ old.asks
+put-asks {P} old new e = ap (λ (d : Desk P). d.asks) e
+
+pub put-settings : {P : Type 0} (old new : Desk P) → new ≡ record old { session = new.session; notes = new.notes } → new.settings ≡ old.settings
+put-settings {P} old new e = ap (λ (d : Desk P). d.settings) e
+
+-- a desk may take a line with a command before which no session reads
+pub may-take : {P : Type 0} (is_own : P → Type 0) (shape : Shape) (known : P → Known) (line other : ScriptLine) (desk : Desk P) (command : Command) → line ≡ other → other.act ≡ Run command → reads_first other.act ≡ false
+    → IsAtWork is_own shape known desk.session → desk.notes ≡ note_lines_of desk.session.section.lines → MayTake is_own shape known line desk
+may-take is_own shape known line other desk command e does unread work counted = record {
+  work = work;
+  runs = (command, ap (λ (l : ScriptLine). l.act) e ∙ does);
+  unread = ap (λ (l : ScriptLine). reads_first l.act) e ∙ unread;
+  counted = counted;
+}

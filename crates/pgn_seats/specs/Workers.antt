@@ -1,11 +1,13 @@
 -- Desks as workers: what holds of them while they take turns, and of a part of them, which has in its hand the pass by which they tell.
-use Rattle.std.specs.Prelude.{◌≡◌, ◌≢◌, ℕ, ◌≤◌, Bool, true, false, List, ◌++◌, length, Option, All, Result, Ok}
+use Rattle.std.specs.Prelude.{◌≡◌, ◌≢◌, ℕ, ◌≤◌, Bool, true, false, List, [], ◌++◌, length, Option, None, All, Result, Ok, OnErr, OnOk}
 use Rattle.std.specs.declared.alloc.AllocError.{AllocError}
 use Rattle.pgn_hub.specs.declared.known.Known.{Known}
 use Rattle.pgn_hub.specs.Shape.{Shape}
 use Rattle.pgn_language.specs.Inputs.{AreNumbered}
 use Rattle.pgn_session.specs.declared.doing.Doing.TheVariants.{Over}
+use Rattle.pgn_session.specs.declared.session.Session.{Session}
 use Rattle.pgn_session.specs.Open.{IsSameClient}
+use Rattle.pgn_session.specs.Runs.{IsLawful}
 use Rattle.pgn_outlet.specs.declared.hand.Hand.{Hand}
 use Rattle.pgn_outlet.specs.declared.outlet.Outlet.{Outlet}
 use Rattle.pgn_outlet.specs.Cames.{what_of}
@@ -18,17 +20,40 @@ use Rattle.pgn_workers.specs.declared.turn.Turn.TheVariants.{Ended}
 use Rattle.pgn_workers.specs.Parts.{Part}
 use Rattle.pgn_seats.specs.declared.desk.Desk.{Desk}
 use Rattle.pgn_seats.specs.declared.tells.Tells.{Tells}
-use Rattle.pgn_seats.specs.Serving.{HasPushedFor, HasToldFirst, IsSeated}
+use Rattle.pgn_seats.specs.Serving.{HasPushedFor, HasServed, HasToldFirst, IsSeated}
 use Rattle.pgn_seats.specs.Desks.{AreSameClients, HaveServed, MayServe, sections_of}
+use Rattle.pgn_seats.specs.Working.{GoesOn, IsAtWork, StopsFirst}
 
 -- the desk's number is that of a seat of the hub
 abbrev pub HasSeat : {P : Type 0} → Shape → Desk P → Type 0
 HasSeat shape desk = (1 ≤ desk.session.section.no) × (desk.session.section.no ≤ length shape.seats)
 
+-- so it is of each
+unfoldable pub HaveSeats : {P : Type 0} → Shape → List (Desk P) → Type 0
+HaveSeats shape desks = All (HasSeat shape) desks
+
 -- a desk serves or has served its seat; once one that tells by the same pass was refused, it has told whole turns
 abbrev pub StandsBy : {P : Type 0} → (P → Type 0) → Shape → (P → Known) → List (Outlet (Option Ask)) → Bool → Hand Saying → Desk P → Type 0
 StandsBy is_own shape known inboxes false v desk = IsSeated is_own shape known inboxes desk v
 StandsBy is_own shape known inboxes true v desk = HasToldFirst shape inboxes desk v
+
+-- a session that was asked nothing has read where it was woken, and told that, with this answer
+pub record HasListened {P : Type 0} (is_own : P → Type 0) (shape : Shape) (known : P → Known) (old new : Session P) (before after : Hand Saying) (r : Result Turn AllocError) : Type 0 where
+  pub same : new ≡ record old { pass = new.pass; items = new.items }
+  pub alone : HasPushedFor old.section.no before after
+  pub lawful : IsLawful shape new
+  pub work : OnOk r (IsAtWork is_own shape known new)
+  pub went : OnOk r (GoesOn [] [] None old new before after)
+  pub stopped : OnErr r (StopsFirst [] old new before after)
+  pub waits : r ≢ Ok Ended
+
+-- a desk that serves has taken a turn, with this answer
+pub record HasTurned {P : Type 0} (is_own : P → Type 0) (shape : Shape) (known : P → Known) (inboxes : List (Outlet (Option Ask))) (old new : Desk P) (before after : Hand Saying) (r : Result Turn AllocError) : Type 0 where
+  pub same : IsSameClient old.session new.session
+  pub alone : HasPushedFor old.session.section.no before after
+  pub seated : OnOk r (IsSeated is_own shape known inboxes new after)
+  pub over : r ≡ Ok Ended → HasServed is_own shape known inboxes new after
+  pub told : HasToldFirst shape inboxes new after
 
 -- one desk has taken a turn, with this answer; before it and behind it one that tells by the pass was refused, or none was
 pub record HasTakenTurn {P E : Type 0} (is_own : P → Type 0) (shape : Shape) (known : P → Known) (inboxes : List (Outlet (Option Ask))) (old new : Desk P) (refused refused_new : Bool) (before after : Hand Saying) (r : Result Turn E) : Type 0 where

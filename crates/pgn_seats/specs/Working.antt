@@ -7,13 +7,16 @@ use Rattle.pgn_language.specs.declared.scenario.ScriptLine.{ScriptLine}
 use Rattle.pgn_language.specs.Inputs.{note_lines_of}
 use Rattle.pgn_model.specs.declared.item.Item.{Item}
 use Rattle.pgn_model.specs.declared.item.Item.TheVariants.{Line}
+use Rattle.pgn_model.specs.Trace.{reads_first}
 use Rattle.pgn_messages.specs.Laws.{begins_line}
+use Rattle.pgn_session.specs.declared.doing.Doing.TheVariants.{Over}
 use Rattle.pgn_session.specs.declared.session.Session.{Session}
 use Rattle.pgn_session.specs.Feed.{fed}
 use Rattle.pgn_session.specs.Open.{IsBefore, IsOpen, IsSameClient, RunsCommand}
 use Rattle.pgn_session.specs.Runs.{IsLawful}
 use Rattle.pgn_session.specs.Standing.{IsServedBy}
-use Rattle.pgn_session.specs.Whole.{HasRest}
+use Rattle.pgn_session.specs.FirstRead.{HasReadTold, IsToReadFirst}
+use Rattle.pgn_session.specs.Whole.{HasRest, IsSameScript}
 use Rattle.pgn_outlet.specs.declared.hand.Hand.{Hand}
 use Rattle.pgn_outlet.specs.Cames.{what_of}
 use Rattle.pgn_outlet.specs.Rule.{MayPush}
@@ -24,7 +27,7 @@ use Rattle.pgn_turns.specs.Sayings.{all_told}
 use Rattle.pgn_turns.specs.Turns.{Turn, IsPlain, asks_of, items_of, lines_of, said, telling_of}
 use Rattle.pgn_requests.specs.Settings.{Kept}
 use Rattle.pgn_seats.specs.declared.desk.Desk.{Desk}
-use Rattle.pgn_seats.specs.Serving.{HasPushedFor}
+use Rattle.pgn_seats.specs.Serving.{HasPushedFor, HasQuitBehind, IsInTurns}
 
 -- a session at work: its pass is the hub's, which has each flag that it may name, it left no read out, and its script is open
 pub record IsAtWork {P : Type 0} (is_own : P → Type 0) (shape : Shape) (known : P → Known) (s : Session P) : Type 0 where
@@ -41,11 +44,29 @@ pub record IsAtLine {P : Type 0} (is_own : P → Type 0) (shape : Shape) (known 
   pub before : IsBefore s line
   pub runs : RunsCommand line
 
+-- a session that may take a step: what it is to read before the line that is to come, it has read
+pub record MayStep {P : Type 0} (is_own : P → Type 0) (shape : Shape) (known : P → Known) (s : Session P) : Type 0 where
+  pub own : is_own s.pass
+  pub served : IsServedBy shape s.section s.plan
+  pub rested : HasRest shape known s
+  pub read_up : IsToReadFirst s → HasReadTold (known s.pass)
+
 -- the session has run a line: it and its items stand behind what was shown, and no other line begins among them
 pub record HasRun {P : Type 0} (old : Session P) (line : ScriptLine) (new : Session P) : Type 0 where
   pub more : List Item
   pub shown : new.items.items ≡ old.items.items ++ Line line.line ∷ more
   pub one_line : list_any begins_line more ≡ false
+
+-- it has, and is at work behind it
+pub record HasRunLine {P : Type 0} (is_own : P → Type 0) (shape : Shape) (known : P → Known) (old : Session P) (line : ScriptLine) (new : Session P) : Type 0 where
+  pub ran : HasRun old line new
+  pub work : IsAtWork is_own shape known new
+
+-- the session has taken the `\quit` that ends its script, whatever turns are before that: it is over, and no listener
+pub record HasQuit {P : Type 0} (known : P → Known) (old new : Session P) : Type 0 where
+  pub over : new.doing ≡ Over
+  pub left : (known new.pass).mark ≡ None
+  pub behind : (turns : List Turn) → IsInTurns old turns → HasQuitBehind new turns
 
 -- the session has run two lines, which were put into its script
 pub record HasRunBoth {P : Type 0} (old : Session P) (first second : ScriptLine) (new : Session P) : Type 0 where
@@ -55,6 +76,11 @@ pub record HasRunBoth {P : Type 0} (old : Session P) (first second : ScriptLine)
   pub one_line : list_any begins_line one ≡ false
   pub one_more : list_any begins_line two ≡ false
   pub section : new.section ≡ fed (fed old.section first) second
+
+-- the session has run a line, which was put into its script
+pub record HasRunPut {P : Type 0} (old : Session P) (line : ScriptLine) (new : Session P) : Type 0 where
+  pub section : new.section ≡ fed old.section line
+  pub ran : HasRun old line new
 
 -- all that was asked, and nothing else, was done in turns, they are what was told, and the settings are those behind them. These lines are to
 -- come, and then the `\quit`
@@ -81,6 +107,42 @@ pub record HasDoneFirst {P : Type 0} (asks : List Ask) (s : Session P) (tells : 
 -- whatever was done first stays done first
 abbrev pub StaysDone : {P : Type 0} → Session P → Session P → Type 0
 StaysDone old new = (asks : List Ask) (tells : Hand Saying) → HasDoneFirst asks old tells → HasDoneFirst asks new tells
+
+-- a line was put into the script of a desk's session, with this answer, or nothing has changed
+pub record HasPut {P T E : Type 0} (known : P → Known) (old : Desk P) (line : ScriptLine) (new : Desk P) (r : Result T E) : Type 0 where
+  pub same : new ≡ record old { session = new.session; notes = new.notes }
+  pub fed : OnOk r (new.session ≡ record old.session { section = fed old.session.section line })
+  pub unchanged : OnErr r (new.session ≡ old.session)
+  pub rested : (shape : Shape) → HasRest shape known old.session → OnOk r (HasRest shape known new.session)
+  pub counted : new.notes ≡ note_lines_of new.session.section.lines
+
+-- a session has taken a step, with this answer: a line, or the `\quit`
+pub record HasGone {P T E : Type 0} (is_own : P → Type 0) (shape : Shape) (known : P → Known) (old new : Session P) (r : Result T E) : Type 0 where
+  pub own : is_own new.pass
+  pub same : IsSameScript old new
+  pub lawful : IsLawful shape new
+  pub first : StaysDone old new
+  pub rested : OnOk r (HasRest shape known new)
+  pub ran : OnOk r ((line : ScriptLine) → IsAtLine is_own shape known line old → HasRunLine is_own shape known old line new)
+  pub quits : OnOk r (IsOpen old → HasQuit known old new)
+
+-- a desk that may put this line into the script of its session and run it: it is none before which a session reads
+pub record MayTake {P : Type 0} (is_own : P → Type 0) (shape : Shape) (known : P → Known) (line : ScriptLine) (desk : Desk P) : Type 0 where
+  pub work : IsAtWork is_own shape known desk.session
+  pub runs : RunsCommand line
+  pub unread : reads_first line.act ≡ false
+  pub counted : desk.notes ≡ note_lines_of desk.session.section.lines
+
+-- it has run lines, with this answer: with them Q holds
+pub record HasTaken {P T E : Type 0} (is_own : P → Type 0) (shape : Shape) (known : P → Known) (Q : Type 0) (old new : Desk P) (r : Result T E) : Type 0 where
+  pub asks : new.asks ≡ old.asks
+  pub settings : new.settings ≡ old.settings
+  pub same : IsSameClient old.session new.session
+  pub lawful : IsLawful shape new.session
+  pub first : StaysDone old.session new.session
+  pub counted : new.notes ≡ note_lines_of new.session.section.lines
+  pub work : OnOk r (IsAtWork is_own shape known new.session)
+  pub ran : OnOk r Q
 
 -- what was asked, and this besides, if it is one
 abbrev pub with_ask : List Ask → Option Ask → List Ask

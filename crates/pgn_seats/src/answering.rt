@@ -1,15 +1,13 @@
 ghost use Rattle.std.specs.Prelude.{◌≡◌, Some, [], ◌∷◌, OnOk, OnErr};
-ghost use Rattle.pgn_hub.specs.Shape.{Shape};
 ghost use Rattle.pgn_language.specs.Inputs.{note_lines_of};
 ghost use Rattle.pgn_outlet.specs.Passes.{IsPassOf, knows};
 ghost use Rattle.pgn_outlet.specs.Rule.{MayPush};
 ghost use Rattle.pgn_seats.specs.Serving.{HasPushedFor};
-ghost use Rattle.pgn_seats.specs.Working.{GoesOn, HasTried, IsAtLine, IsAtWork, MayDo, StopsFirst};
-ghost use Rattle.pgn_session.specs.Feed.{fed};
+ghost use Rattle.pgn_seats.specs.Working.{GoesOn, HasPut, HasTried, IsAtLine, IsAtWork, MayDo, StopsFirst};
 ghost use Rattle.pgn_session.specs.FirstRead.{HasReadTold, IsToReadFirst};
 ghost use Rattle.pgn_session.specs.Open.{IsOpen};
 ghost use Rattle.pgn_session.specs.Runs.{IsLawful};
-ghost use Rattle.pgn_session.specs.Whole.{HasRest, IsSameScript};
+ghost use Rattle.pgn_session.specs.Whole.{IsSameScript};
 ghost use Rattle.pgn_turns.specs.declared.asked.Ask.TheVariants.{Query};
 ghost use Rattle.pgn_turns.specs.Asks.{line_of};
 
@@ -38,7 +36,7 @@ pub(crate) fn answer<P: PassView + Send + Drop, H: Hub<Pass = P>, R: Wait>(
     ensures tried { HasTried (H.is_pass service.now.hub.now) (H.shape service.now.hub.now) P.known
         (Query query.now) desk.old desk.new (knows tells.old) (knows tells.new) result }
 {
-    put_query(service.alloc, &mut desk.session, &mut desk.notes, query)?;
+    put_query(service.alloc, desk, query)?;
     hear_before(service, &mut desk.session, tells)?;
     run_query(service, &mut desk.session, query, tells)
 }
@@ -46,22 +44,15 @@ pub(crate) fn answer<P: PassView + Send + Drop, H: Hub<Pass = P>, R: Wait>(
 // Puts a query's line into the script.
 fn put_query<P: PassView + Send + Drop>(
     alloc: Global,
-    session: &mut Session<P>,
-    notes: &mut u32,
+    desk: &mut Desk<P>,
     query: &Asked,
 ) -> Result<(), AllocError>
-    requires is_open { IsOpen session.old }
-    requires counted { notes.old ≡ note_lines_of session.old.section.lines }
-    ensures fed { OnOk result
-        (session.new
-        ≡ record session.old { section = fed session.old.section (line_of query.now) }) }
-    ensures unchanged { OnErr result (session.new ≡ session.old) }
-    ensures rested { (shape : Shape) → HasRest shape P.known session.old
-        → OnOk result (HasRest shape P.known session.new) }
-    ensures counted { notes.new ≡ note_lines_of session.new.section.lines }
+    requires is_open { IsOpen desk.old.session }
+    requires counted { desk.old.notes ≡ note_lines_of desk.old.session.section.lines }
+    ensures { HasPut P.known desk.old (line_of query.now) desk.new result }
 {
     let line = query.script_line(alloc)?;
-    put_line(session, notes, line)
+    put_line(desk, line)
 }
 
 // Runs a query's line, which is to come, and tells its whole answer. Where memory does not suffice, nothing of it is told.

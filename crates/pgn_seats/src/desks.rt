@@ -1,7 +1,7 @@
-ghost use Rattle.std.specs.Prelude.{◌≡◌, false, Ok, OnOk, All};
+ghost use Rattle.std.specs.Prelude.{◌≡◌, false, Ok, OnOk};
 ghost use Rattle.pgn_outlet.specs.Passes.{IsPassOf, knows};
 ghost use Rattle.pgn_outlet.specs.Rule.{MayPush};
-ghost use Rattle.pgn_seats.specs.Workers.{HasSeat, HasTakenTurn, StandsBy};
+ghost use Rattle.pgn_seats.specs.Workers.{HasSeat, HasTakenTurn, HaveSeats, StandsBy};
 
 use crate::turn::take_turn;
 use crate::{Desk, Service, Tells};
@@ -84,7 +84,7 @@ pub(crate) fn wait_behind<P: PassView + Send + Drop, H: Hub<Pass = P>, R: Wait>(
     desks: &[Desk<P>],
     pause: Pause,
 ) -> u32
-    requires { All (HasSeat (H.shape hub.now)) desks.now }
+    requires { HaveSeats (H.shape hub.now) desks.now }
 {
     if pause.heard || desks.len() == 0 {
         return 0;

@@ -28,7 +28,12 @@ pub(crate) fn discard<P: PassView + Send + Drop, H: Hub<Pass = P>, R: Wait>(
     let from = desk.session.items.len();
     let state = desk.session.block.state();
     take_both(service, desk, discard_at(service.alloc, line))?;
-    let items = desk.session.items.as_slice();
-    let bytes = discard_bytes(service.alloc, &mut desk.settings, state, items, from)?;
+    let bytes = discard_bytes(
+        service.alloc,
+        &mut desk.settings,
+        state,
+        &desk.session,
+        from,
+    )?;
     say(service, desk.session.section.no, bytes, tells)
 }

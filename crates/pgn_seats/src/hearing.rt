@@ -1,8 +1,9 @@
-ghost use Rattle.std.specs.Prelude.{◌≡◌, ◌≢◌, None, [], List, Ok, OnErr, OnOk};
+ghost use Rattle.std.specs.Prelude.{◌≡◌, ◌≢◌, None, List, Ok, OnErr, OnOk};
 ghost use Rattle.pgn_language.specs.declared.scenario.ScriptLine.{ScriptLine};
 ghost use Rattle.pgn_outlet.specs.Passes.{IsPassOf, knows};
 ghost use Rattle.pgn_outlet.specs.Rule.{MayPush};
 ghost use Rattle.pgn_seats.specs.Serving.{HasPushedFor};
+ghost use Rattle.pgn_seats.specs.Workers.{HasListened};
 ghost use Rattle.pgn_seats.specs.Working.{GoesOn, StopsFirst, IsAtLine, IsAtWork};
 ghost use Rattle.pgn_session.specs.FirstRead.{HasReadTold, IsToReadFirst};
 ghost use Rattle.pgn_session.specs.Runs.{IsLawful};
@@ -60,17 +61,8 @@ pub(crate) fn listen<P: PassView + Send + Drop, H: Hub<Pass = P>, R: Wait>(
     requires work { IsAtWork (H.is_pass service.now.hub.now) (H.shape service.now.hub.now) P.known
         session.old }
     ensures own { IsPassOf service.now.outbox.now tells.new }
-    ensures alone { HasPushedFor session.old.section.no (knows tells.old) (knows tells.new) }
-    ensures same { session.new
-        ≡ record session.old { pass = session.new.pass; items = session.new.items } }
-    ensures lawful { IsLawful (H.shape service.now.hub.now) session.new }
-    ensures work { OnOk result (IsAtWork (H.is_pass service.now.hub.now)
-        (H.shape service.now.hub.now) P.known session.new) }
-    ensures went { OnOk result (GoesOn [] [] None session.old session.new (knows tells.old)
-        (knows tells.new)) }
-    ensures stopped { OnErr result (StopsFirst [] session.old session.new (knows tells.old)
-        (knows tells.new)) }
-    ensures waits { result ≢ Ok Turn.Ended }
+    ensures heard { HasListened (H.is_pass service.now.hub.now) (H.shape service.now.hub.now)
+        P.known session.old session.new (knows tells.old) (knows tells.new) result }
 {
     let from = session.items.len();
     let done = session.idle(service.alloc, service.hub)?;
@@ -82,17 +74,9 @@ pub(crate) fn listen<P: PassView + Send + Drop, H: Hub<Pass = P>, R: Wait>(
 fn rest_behind<H: Hub>(hub: &H, done: IdleDone) -> Result<Turn, AllocError>
     ensures { result ≢ Ok Turn.Ended }
 {
-    let heard = has_read(done);
+    let heard = matches!(done, IdleDone::Read { .. });
     if !heard && hub.is_called_off() {
         return Err(AllocError);
     }
     Ok(Turn::waited(heard))
-}
-
-// Whether an idle session has read.
-fn has_read(done: IdleDone) -> bool {
-    match done {
-        IdleDone::Read { .. } => true,
-        _ => false,
-    }
 }

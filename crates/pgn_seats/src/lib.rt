@@ -20,7 +20,6 @@ mod discarding;
 pub mod examples;
 mod hearing;
 mod lines;
-mod quitting;
 mod resetting;
 mod service;
 mod serving;

@@ -1,8 +1,8 @@
-ghost use Rattle.std.specs.Prelude.{◌≡◌, false, Ok, OnOk, All};
+ghost use Rattle.std.specs.Prelude.{◌≡◌, false, Ok, OnOk};
 ghost use Rattle.pgn_outlet.specs.Passes.{IsPassOf, knows};
 ghost use Rattle.pgn_outlet.specs.Rule.{MayPush};
 ghost use Rattle.pgn_seats.specs.Desks.{HaveServed, MayServe};
-ghost use Rattle.pgn_seats.specs.Workers.{HasSeat, HasTakenTurn, StandsBy};
+ghost use Rattle.pgn_seats.specs.Workers.{HasTakenTurn, HaveSeats, StandsBy};
 
 use crate::desks::{end_desks, turn_at, wait_behind};
 use crate::{Desk, Service, Tells};
@@ -42,7 +42,7 @@ pub fn serve_seats<P: PassView + Send + Drop, H: Hub<Pass = P> + Sync, R: Thread
             (knows tells.exit.now.pass) result }
     { turn_at(service, desk, tells) };
     let wait = |desks: &mut [Desk<P>], tells: &mut Tells, pause: Pause| -> u32
-        requires { All (HasSeat (H.shape service.now.hub.now)) desks.now }
+        requires { HaveSeats (H.shape service.now.hub.now) desks.now }
         ensures { (tells.exit.now ≡ tells.entry.now) × (desks.exit.now ≡ desks.entry.now) }
     {
         let _tells = tells;

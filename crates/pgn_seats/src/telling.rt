@@ -10,7 +10,6 @@ ghost use Rattle.pgn_turns.specs.Turns.{farewell, heard};
 use crate::Service;
 use pgn_answers::BlockState;
 use pgn_base::SessionNo;
-use pgn_model::Item;
 use pgn_outlet::{Came, OutletPass};
 use pgn_requests::Settings;
 use pgn_session::Session;
@@ -132,19 +131,20 @@ fn push_saying<H, R: Wait>(
     Ok(())
 }
 
-// What a client is told of `DISCARD ALL`, whose lines stand among a session's items from this place on, by the state of the block before
+// What a client is told of `DISCARD ALL`, whose lines stand among the session's items from this place on, by the state of the block before
 // them; and does what that does to the settings. Of the lines themselves nothing is heard.
-pub(crate) fn discard_bytes(
+pub(crate) fn discard_bytes<P>(
     alloc: Global,
     settings: &mut Settings,
     state: BlockState,
-    items: &[Item],
+    session: &Session<P>,
     from: usize,
 ) -> Result<Vec<u8>, AllocError>
-    requires within { from ≤ length items.now }
-    ensures told { IfOk result (λ bytes. bytes.items
-        ≡ discard_answer state settings.old (flat_map heard (drop from items.now))) }
+    requires within { from ≤ length session.now.items.items }
+    ensures told { IfOk result (λ bytes. bytes.items ≡ discard_answer state settings.old
+        (flat_map heard (drop from session.now.items.items))) }
     ensures kept { OnOk result (settings.new ≡ discarded state settings.old) }
 {
+    let items = session.items.as_slice();
     tell_discard(alloc, settings, state, &items[from..], &[])
 }

@@ -1,8 +1,9 @@
-ghost use Rattle.std.specs.Prelude.{◌≡◌, ◌↔◌, ◌-◌, ◌≤◌, Ok, Option, true, [], ◌∷◌, ◌++◌, IfNone, IfSome, IsTrue, OnOk, get_or, length};
+ghost use Rattle.std.specs.Prelude.{◌≡◌, ◌-◌, ◌≤◌, Ok, Option, true, [], ◌∷◌, ◌++◌, IfNone, IfSome, OnOk, get_or, length};
 ghost use Rattle.pgn_outlet.specs.declared.outlet.Outlet.{Outlet};
 ghost use Rattle.pgn_outlet.specs.Passes.{IsPassOf, knows};
 ghost use Rattle.pgn_outlet.specs.Rule.{MayPush};
 ghost use Rattle.pgn_seats.specs.Serving.{HasPushedFor, HasServed, HasToldFirst, IsSeated, Serves, taken};
+ghost use Rattle.pgn_seats.specs.Workers.{HasTurned};
 ghost use Rattle.pgn_seats.specs.Working.{HasTried, MayDo};
 ghost use Rattle.pgn_session.specs.Open.{IsSameClient};
 ghost use Rattle.pgn_turns.specs.declared.asked.Ask.{Ask};
@@ -10,14 +11,14 @@ ghost use Rattle.pgn_turns.specs.declared.asked.Ask.{Ask};
 use crate::answering::answer;
 use crate::discarding::discard;
 use crate::hearing::listen;
-use crate::quitting::quit;
+use crate::lines::run_line;
 use crate::resetting::reset;
 use crate::settling::settle;
 use crate::{Desk, Inbox, Service};
 use pgn_base::SessionNo;
 use pgn_hub::{Hub, PassView};
 use pgn_outlet::{Came, OutletPass};
-use pgn_session::{Doing, Session};
+use pgn_session::Doing;
 use pgn_turns::{Ask, Saying};
 use pgn_workers::Turn;
 use std::alloc::AllocError;
@@ -44,19 +45,9 @@ pub(crate) fn take_turn<P: PassView + Send + Drop, H: Hub<Pass = P>, R: Wait>(
     ensures told { HasToldFirst (H.shape service.now.hub.now) service.now.inboxes.now desk.new
         (knows tells.new) }
 {
-    if is_over(&desk.session) {
-        return Ok(Turn::Ended);
-    }
-    serve_next(service, desk, tells)
-}
-
-// Whether the session has quit.
-fn is_over<P>(session: &Session<P>) -> bool
-    ensures { IsTrue result ↔ (session.now.doing ≡ Doing.Over) }
-{
-    match session.doing {
-        Doing::Over => true,
-        _ => false,
+    match desk.session.doing {
+        Doing::Over => Ok(Turn::Ended),
+        _ => serve_next(service, desk, tells),
     }
 }
 
@@ -71,14 +62,8 @@ fn serve_next<P: PassView + Send + Drop, H: Hub<Pass = P>, R: Wait>(
         service.now.inboxes.now desk.old (knows tells.old) }
     requires may { MayPush (knows tells.old) desk.old.session.section.no }
     ensures own { IsPassOf service.now.outbox.now tells.new }
-    ensures same { IsSameClient desk.old.session desk.new.session }
-    ensures alone { HasPushedFor desk.old.session.section.no (knows tells.old) (knows tells.new) }
-    ensures seated { OnOk result (IsSeated (H.is_pass service.now.hub.now)
-        (H.shape service.now.hub.now) P.known service.now.inboxes.now desk.new (knows tells.new)) }
-    ensures over { result ≡ Ok Turn.Ended → HasServed (H.is_pass service.now.hub.now)
-        (H.shape service.now.hub.now) P.known service.now.inboxes.now desk.new (knows tells.new) }
-    ensures told { HasToldFirst (H.shape service.now.hub.now) service.now.inboxes.now desk.new
-        (knows tells.new) }
+    ensures turned { HasTurned (H.is_pass service.now.hub.now) (H.shape service.now.hub.now) P.known
+        service.now.inboxes.now desk.old desk.new (knows tells.old) (knows tells.new) result }
 {
     match take_ask(
         service.rt,
@@ -94,7 +79,7 @@ fn serve_next<P: PassView + Send + Drop, H: Hub<Pass = P>, R: Wait>(
                 Err(_) => Err(AllocError),
             }
         }
-        Some(None) => match quit(service, &mut desk.session) {
+        Some(None) => match run_line(service, &mut desk.session) {
             Ok(()) => Ok(Turn::Ended),
             Err(_) => Err(AllocError),
         },

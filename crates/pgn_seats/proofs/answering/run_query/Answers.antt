@@ -7,8 +7,8 @@ use Rattle.pgn_seats.proofs.SayLaws.{may-at, pushed-at, pushed-same}
 use Rattle.pgn_seats.proofs.WorkLaws.{no-script, ran-within}
 use Rattle.pgn_seats.proofs.answering.run_query.Goals as goal
 
-pub run_line-requires-clause-line : goal.run_line-requires-clause-line
-run_line-requires-clause-line g c κs within = (line_of c.args.query.now, c.requires.line)
+pub run_line-requires : goal.run_line-requires
+run_line-requires g c = (search rules, record { own = c.requires.line.own; served = c.requires.line.served; rested = c.requires.line.rested; read_up = c.requires.read_up })
 
 pub say_answer-requires-clause-may : goal.say_answer-requires-clause-may
 say_answer-requires-clause-may g c = may-at _ _ (knows c.args.tells.now) (sym (no-script c.args.session.now c.run_line.new.session c.run_line.ensures.same)) c.requires.may
@@ -16,10 +16,16 @@ say_answer-requires-clause-may g c = may-at _ _ (knows c.args.tells.now) (sym (n
 pub say_answer-requires-clause-shown : goal.say_answer-requires-clause-shown
 say_answer-requires-clause-shown g c =
     let from : c.len-from.result ≡ length c.args.session.now.items.items = search rules in
-    ran-within c.args.session.now c.run_line.new.session (line_of c.args.query.now) c.len-from.result from (c.in_ok-run_line.ensures.ran (line_of c.args.query.now) c.requires.line.before c.requires.line.runs)
+    ran-within c.args.session.now c.run_line.new.session (line_of c.args.query.now) c.len-from.result from (c.in_ok-run_line.ensures.ran (line_of c.args.query.now) c.requires.line).ran
 
 pub returns-in_err-run_line-clause-alone : goal.returns-in_err-run_line-clause-alone
 returns-in_err-run_line-clause-alone g c = pushed-same c.args.session.now.section.no (knows c.args.tells.now) (knows c.args.tells.now) refl
+
+pub returns-in_err-run_line-clause-same : goal.returns-in_err-run_line-clause-same
+returns-in_err-run_line-clause-same g c = c.run_line.ensures.same
+
+pub returns-in_err-run_line-clause-lawful : goal.returns-in_err-run_line-clause-lawful
+returns-in_err-run_line-clause-lawful g c = c.run_line.ensures.lawful
 
 pub returns-in_err-run_line-clause-stopped : goal.returns-in_err-run_line-clause-stopped
 returns-in_err-run_line-clause-stopped g c =
@@ -28,15 +34,21 @@ returns-in_err-run_line-clause-stopped g c =
 pub returns-clause-alone : goal.returns-clause-alone
 returns-clause-alone g c = pushed-at _ _ _ _ (no-script c.args.session.now c.run_line.new.session c.run_line.ensures.same) c.say_answer.ensures.alone
 
+pub returns-clause-same : goal.returns-clause-same
+returns-clause-same g c = c.run_line.ensures.same
+
+pub returns-clause-lawful : goal.returns-clause-lawful
+returns-clause-lawful g c = c.run_line.ensures.lawful
+
 pub returns-clause-work : goal.returns-clause-work
-returns-clause-work g c = on_ok c.say_answer.result _ c.in_ok-run_line.ensures.work
+returns-clause-work g c = on_ok c.say_answer.result _ (c.in_ok-run_line.ensures.ran (line_of c.args.query.now) c.requires.line).work
 
 pub returns-clause-went : goal.returns-clause-went
 returns-clause-went g c =
     let from : c.len-from.result ≡ length c.args.session.now.items.items = search rules in
     ok_then c.say_answer.result _ _
     (λ said kept asks h. run-done (g.H.Hub.is_pass c.args.service.now.hub.now) (g.H.Hub.shape c.args.service.now.hub.now) g.P.PassView.known asks c.args.query.now c.args.session.now c.run_line.new.session kept (knows c.args.tells.now) (knows c.say_answer.new.tells) c.len-from.result h
-    c.run_line.ensures.same.section (c.in_ok-run_line.ensures.ran (line_of c.args.query.now) c.requires.line.before c.requires.line.runs) c.in_ok-run_line.ensures.work from said)
+    c.run_line.ensures.same.section (c.in_ok-run_line.ensures.ran (line_of c.args.query.now) c.requires.line).ran (c.in_ok-run_line.ensures.ran (line_of c.args.query.now) c.requires.line).work from said)
     c.say_answer.ensures.said
 
 pub returns-clause-stopped : goal.returns-clause-stopped

@@ -1,27 +1,25 @@
-use Rattle.std.proofs.Common.{◌≡◌, ◌+◌, List, [], drop, length, ap, sym, ◌∙◌, refl, rules, subst}
+use Rattle.std.proofs.Common.{◌≡◌, ◌+◌, [], drop, length, ap, sym, ◌∙◌, refl, rules, subst}
 use Rattle.std.specs.Prelude.{flat_map}
+use Rattle.pgn_base.specs.declared.command.Command.TheVariants.{Bad}
 use Rattle.pgn_language.specs.declared.scenario.ScriptLine.{ScriptLine}
 use Rattle.pgn_outlet.specs.Passes.{knows}
-use Rattle.pgn_model.specs.declared.item.Item.{Item}
 use Rattle.pgn_requests.specs.Settings.{Kept}
-use Rattle.pgn_turns.specs.Asks.{unlisten_line}
+use Rattle.pgn_turns.specs.Asks.{discard_line, unlisten_line}
 use Rattle.pgn_turns.specs.Served.{discard_answer, discarded}
 use Rattle.pgn_turns.specs.Turns.{heard}
 use Rattle.pgn_seats.specs.Working.{HasRunBoth}
 use Rattle.pgn_seats.proofs.DoneLaws.{discards-done, done-first, first-untold}
 use Rattle.pgn_seats.proofs.ResultLaws.{err_then, ok_then, on_err, on_ok}
 use Rattle.pgn_seats.proofs.SayLaws.{may-at, pushed-at, pushed-same, said-as}
-use Rattle.pgn_seats.proofs.WorkLaws.{client-no}
+use Rattle.pgn_seats.proofs.WorkLaws.{client-no, may-take}
 use Rattle.pgn_seats.proofs.discarding.discard.Goals as goal
 
 pub say-requires-clause-may : goal.say-requires-clause-may
 say-requires-clause-may g c = may-at _ _ (knows c.args.tells.now) (sym (client-no c.args.desk.now.session c.take_both.new.desk.session c.take_both.ensures.same)) c.requires.may.may
 
-pub take_both-requires-clause-work : goal.take_both-requires-clause-work
-take_both-requires-clause-work g c κs within = c.requires.may.work
-
-pub take_both-requires-clause-counted : goal.take_both-requires-clause-counted
-take_both-requires-clause-counted g c κs within = c.requires.may.counted
+pub take_both-requires : goal.take_both-requires
+take_both-requires g c =
+    (search rules, may-take (g.H.Hub.is_pass c.args.service.now.hub.now) (g.H.Hub.shape c.args.service.now.hub.now) g.P.PassView.known c.discard_at.result (discard_line c.args.line) c.args.desk.now (Bad 0) c.discard_at.ensures refl refl c.requires.may.work c.requires.may.counted)
 
 pub returns-in_err-take_both-clause-tried : goal.returns-in_err-take_both-clause-tried
 returns-in_err-take_both-clause-tried g c = record {
@@ -61,8 +59,7 @@ returns-clause-tried g c = record {
       let kept = c.in_ok-bytes.ensures.kept ∙ ap (λ (k : Kept). discarded c.state-state.result k) settings in
       let told =
       c.in_ok-bytes.ensures.told
-      ∙ ap (λ (k : Kept). discard_answer c.state-state.result k (flat_map heard (drop c.len-from.result c.as_slice-items.result.now))) settings
-      ∙ ap (λ (items : List Item). discard_answer c.state-state.result c.args.desk.now.settings (flat_map heard (drop c.len-from.result items))) c.as_slice-items.ensures.value in
+      ∙ ap (λ (k : Kept). discard_answer c.state-state.result k (flat_map heard (drop c.len-from.result c.take_both.new.desk.session.items.items))) settings in
       ok_then c.say.result _ _
       (λ said asks h. discards-done (g.H.Hub.is_pass c.args.service.now.hub.now) (g.H.Hub.shape c.args.service.now.hub.now) g.P.PassView.known asks c.args.line c.len-from.result c.state-state.result c.args.desk.now.session c.take_both.new.desk.session
       c.args.desk.now.settings c.discard_bytes.new.settings (knows c.args.tells.now) (knows c.say.new.tells) c.requires.may.work h ran from c.state-state.ensures kept

@@ -23,49 +23,44 @@ say_heard-requires-clause-within g c =
     let from : c.len-from.result ≡ length c.args.session.now.items.items = search rules in
     within-grown c.len-from.result _ _ from c.idle.ensures.grows
 
-pub returns-in_err-done-clause-alone : goal.returns-in_err-done-clause-alone
-returns-in_err-done-clause-alone g c = pushed-same c.args.session.now.section.no (knows c.args.tells.now) (knows c.args.tells.now) refl
+pub returns-in_err-done-clause-heard : goal.returns-in_err-done-clause-heard
+returns-in_err-done-clause-heard g c = record {
+  same = c.idle.ensures.same;
+  alone = pushed-same c.args.session.now.section.no (knows c.args.tells.now) (knows c.args.tells.now) refl;
+  lawful = answer-lawful (g.H.Hub.shape c.args.service.now.hub.now) g.P.PassView.known c.idle.new.self c.in_err-done.ensures.refused;
+  work = search rules;
+  went = search rules;
+  stopped = on_err c.from_residual.result _ (λ kept asks h. read-stays c.args.session.now c.idle.new.self c.idle.ensures.same c.idle.ensures.grows asks (knows c.args.tells.now) (done-first [] asks c.args.session.now kept (knows c.args.tells.now) h));
+  waits = search rules;
+}
 
-pub returns-in_err-done-clause-lawful : goal.returns-in_err-done-clause-lawful
-returns-in_err-done-clause-lawful g c = answer-lawful (g.H.Hub.shape c.args.service.now.hub.now) g.P.PassView.known c.idle.new.self c.in_err-done.ensures.refused
+pub returns-in_err-say_heard-clause-heard : goal.returns-in_err-say_heard-clause-heard
+returns-in_err-say_heard-clause-heard g c = record {
+  same = c.idle.ensures.same;
+  alone = pushed-at _ _ _ _ (no-read c.args.session.now c.idle.new.self c.idle.ensures.same) c.say_heard.ensures.alone;
+  lawful = rest-lawful (g.H.Hub.shape c.args.service.now.hub.now) g.P.PassView.known c.idle.new.self c.in_ok-done.ensures.rested;
+  work = search rules;
+  went = search rules;
+  stopped = on_err c.from_residual-in_err-say_heard.result _
+      (λ kept asks h. first-untold asks c.idle.new.self (knows c.args.tells.now) (knows c.say_heard.new.tells) c.in_err-say_heard.ensures.unsaid
+      (read-stays c.args.session.now c.idle.new.self c.idle.ensures.same c.idle.ensures.grows asks (knows c.args.tells.now) (done-first [] asks c.args.session.now kept (knows c.args.tells.now) h)));
+  waits = search rules;
+}
 
-pub returns-in_err-done-clause-stopped : goal.returns-in_err-done-clause-stopped
-returns-in_err-done-clause-stopped g c =
-    on_err c.from_residual.result _ (λ kept asks h. read-stays c.args.session.now c.idle.new.self c.idle.ensures.same c.idle.ensures.grows asks (knows c.args.tells.now) (done-first [] asks c.args.session.now kept (knows c.args.tells.now) h))
-
-pub returns-in_err-say_heard-clause-alone : goal.returns-in_err-say_heard-clause-alone
-returns-in_err-say_heard-clause-alone g c = pushed-at _ _ _ _ (no-read c.args.session.now c.idle.new.self c.idle.ensures.same) c.say_heard.ensures.alone
-
-pub returns-in_err-say_heard-clause-lawful : goal.returns-in_err-say_heard-clause-lawful
-returns-in_err-say_heard-clause-lawful g c = rest-lawful (g.H.Hub.shape c.args.service.now.hub.now) g.P.PassView.known c.idle.new.self c.in_ok-done.ensures.rested
-
-pub returns-in_err-say_heard-clause-stopped : goal.returns-in_err-say_heard-clause-stopped
-returns-in_err-say_heard-clause-stopped g c =
-    on_err c.from_residual-in_err-say_heard.result _
-    (λ kept asks h. first-untold asks c.idle.new.self (knows c.args.tells.now) (knows c.say_heard.new.tells) c.in_err-say_heard.ensures.unsaid
-    (read-stays c.args.session.now c.idle.new.self c.idle.ensures.same c.idle.ensures.grows asks (knows c.args.tells.now) (done-first [] asks c.args.session.now kept (knows c.args.tells.now) h)))
-
-pub returns-clause-alone : goal.returns-clause-alone
-returns-clause-alone g c = pushed-at _ _ _ _ (no-read c.args.session.now c.idle.new.self c.idle.ensures.same) c.say_heard.ensures.alone
-
-pub returns-clause-lawful : goal.returns-clause-lawful
-returns-clause-lawful g c = rest-lawful (g.H.Hub.shape c.args.service.now.hub.now) g.P.PassView.known c.idle.new.self c.in_ok-done.ensures.rested
-
-pub returns-clause-work : goal.returns-clause-work
-returns-clause-work g c =
-    on_ok c.rest_behind.result _ (work-read (g.H.Hub.is_pass c.args.service.now.hub.now) (g.H.Hub.shape c.args.service.now.hub.now) g.P.PassView.known c.args.session.now c.idle.new.self c.requires.work c.idle.ensures.own c.in_ok-done.ensures.rested
-    c.idle.ensures.same)
-
-pub returns-clause-went : goal.returns-clause-went
-returns-clause-went g c =
+pub returns-clause-heard : goal.returns-clause-heard
+returns-clause-heard g c =
     let from : c.len-from.result ≡ length c.args.session.now.items.items = search rules in
     let shows = idle-shows (g.H.Hub.shape c.args.service.now.hub.now).format _ _ _ c.args.session.now.items.items c.idle.new.self.items.items c.in_ok-done.done c.in_ok-done.ensures.idled in
-    on_ok c.rest_behind.result _ (λ kept asks h. read-done [] asks c.args.session.now c.idle.new.self kept (knows c.args.tells.now) (knows c.say_heard.new.tells) c.len-from.result h c.idle.ensures.same shows from c.in_ok-say_heard.ensures.said)
-
-pub returns-clause-stopped : goal.returns-clause-stopped
-returns-clause-stopped g c =
-    let from : c.len-from.result ≡ length c.args.session.now.items.items = search rules in
-    let shows = idle-shows (g.H.Hub.shape c.args.service.now.hub.now).format _ _ _ c.args.session.now.items.items c.idle.new.self.items.items c.in_ok-done.done c.in_ok-done.ensures.idled in
-    on_err c.rest_behind.result _
-    (λ kept asks h. done-first [] asks c.idle.new.self kept (knows c.say_heard.new.tells)
-    (read-done [] asks c.args.session.now c.idle.new.self kept (knows c.args.tells.now) (knows c.say_heard.new.tells) c.len-from.result h c.idle.ensures.same shows from c.in_ok-say_heard.ensures.said))
+    record {
+      same = c.idle.ensures.same;
+      alone = pushed-at _ _ _ _ (no-read c.args.session.now c.idle.new.self c.idle.ensures.same) c.say_heard.ensures.alone;
+      lawful = rest-lawful (g.H.Hub.shape c.args.service.now.hub.now) g.P.PassView.known c.idle.new.self c.in_ok-done.ensures.rested;
+      work = on_ok c.rest_behind.result _
+          (work-read (g.H.Hub.is_pass c.args.service.now.hub.now) (g.H.Hub.shape c.args.service.now.hub.now) g.P.PassView.known c.args.session.now c.idle.new.self c.requires.work c.idle.ensures.own c.in_ok-done.ensures.rested c.idle.ensures.same);
+      went = on_ok c.rest_behind.result _
+          (λ kept asks h. read-done [] asks c.args.session.now c.idle.new.self kept (knows c.args.tells.now) (knows c.say_heard.new.tells) c.len-from.result h c.idle.ensures.same shows from c.in_ok-say_heard.ensures.said);
+      stopped = on_err c.rest_behind.result _
+          (λ kept asks h. done-first [] asks c.idle.new.self kept (knows c.say_heard.new.tells)
+          (read-done [] asks c.args.session.now c.idle.new.self kept (knows c.args.tells.now) (knows c.say_heard.new.tells) c.len-from.result h c.idle.ensures.same shows from c.in_ok-say_heard.ensures.said));
+      waits = c.rest_behind.ensures;
+    }

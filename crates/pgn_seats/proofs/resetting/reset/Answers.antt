@@ -1,22 +1,21 @@
 use Rattle.std.proofs.Common.{◌+◌, [], sym, refl, subst, rules}
+use Rattle.pgn_base.specs.declared.command.Command.TheVariants.{Rollback}
 use Rattle.pgn_language.specs.declared.scenario.ScriptLine.{ScriptLine}
 use Rattle.pgn_outlet.specs.Passes.{knows}
-use Rattle.pgn_turns.specs.Asks.{unlisten_line}
+use Rattle.pgn_turns.specs.Asks.{rollback_line, unlisten_line}
 use Rattle.pgn_seats.specs.Working.{HasRunBoth}
 use Rattle.pgn_seats.proofs.DoneLaws.{done-first, first-untold, leaves-done}
 use Rattle.pgn_seats.proofs.ResultLaws.{err_then, ok_then, on_err, on_ok}
 use Rattle.pgn_seats.proofs.SayLaws.{may-at, pushed-at, pushed-same}
-use Rattle.pgn_seats.proofs.WorkLaws.{client-no}
+use Rattle.pgn_seats.proofs.WorkLaws.{client-no, may-take}
 use Rattle.pgn_seats.proofs.resetting.reset.Goals as goal
 
 pub say_end-requires-clause-may : goal.say_end-requires-clause-may
 say_end-requires-clause-may g c = may-at _ _ (knows c.args.tells.now) (sym (client-no c.args.desk.now.session c.take_both.new.desk.session c.take_both.ensures.same)) c.requires.may.may
 
-pub take_both-requires-clause-work : goal.take_both-requires-clause-work
-take_both-requires-clause-work g c κs within = c.requires.may.work
-
-pub take_both-requires-clause-counted : goal.take_both-requires-clause-counted
-take_both-requires-clause-counted g c κs within = c.requires.may.counted
+pub take_both-requires : goal.take_both-requires
+take_both-requires g c =
+    (search rules, may-take (g.H.Hub.is_pass c.args.service.now.hub.now) (g.H.Hub.shape c.args.service.now.hub.now) g.P.PassView.known c.rollback_at.result (rollback_line c.args.line) c.args.desk.now Rollback c.rollback_at.ensures refl refl c.requires.may.work c.requires.may.counted)
 
 pub returns-in_err-take_both-clause-tried : goal.returns-in_err-take_both-clause-tried
 returns-in_err-take_both-clause-tried g c = record {

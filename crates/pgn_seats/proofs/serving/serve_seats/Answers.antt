@@ -5,11 +5,12 @@ use Rattle.std.proofs.lemmas.List.Elements.{All-head}
 use Rattle.pgn_outlet.specs.Passes.{knows}
 use Rattle.pgn_outlet.specs.Rule.{MayPush}
 use Rattle.pgn_seats.specs.declared.desk.Desk.{Desk}
-use Rattle.pgn_seats.specs.Workers.{StandsBy}
+use Rattle.pgn_seats.specs.Workers.{HaveSeats, StandsBy}
 use Rattle.pgn_seats.proofs.DeskWorkLaws.{all-ready, part-ended, part-turned, part-waited, ready-still}
 use Rattle.pgn_seats.proofs.serving.serve_seats.Goals as goal
 
 pub run-requires-clause-job : goal.run-requires-clause-job
+unfolding HaveSeats
 run-requires-clause-job g c κs within =
     let is_own = g.H.Hub.is_pass c.args.service.now.hub.now in
     let shape = g.H.Hub.shape c.args.service.now.hub.now in
