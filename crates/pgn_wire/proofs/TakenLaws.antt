@@ -1,8 +1,9 @@
 -- A query that was taken, and a session that was stopped.
-use Rattle.std.proofs.Common.{◌≡◌, ℕ, ◌+◌, false, List, [], ◌∷◌, ◌++◌, Option, Result, Ok, Err, OnOk, OnErr, Some, None, sym, ap, ◌∙◌, subst, refl, append_assoc, append-nil}
+use Rattle.std.proofs.Common.{◌≡◌, ◌≢◌, ℕ, ◌+◌, ◌<◌, false, length, arith, List, [], ◌∷◌, ◌++◌, Option, Result, Ok, Err, OnOk, OnErr, Some, None, sym, ap, ◌∙◌, subst, refl, append_assoc, append-nil}
 use Rattle.std.specs.List.{list_any}
+use Rattle.std.proofs.lemmas.List.{length-append}
 use Rattle.pgn_base.specs.declared.command.Command.{Command}
-use Rattle.pgn_language.specs.declared.scenario.Act.TheVariants.{Run}
+use Rattle.pgn_language.specs.declared.scenario.Act.TheVariants.{Quit, Run}
 use Rattle.pgn_language.specs.declared.scenario.ScriptLine.{ScriptLine}
 use Rattle.pgn_language.specs.declared.scenario.Section.{Section}
 use Rattle.pgn_model.specs.declared.item.Item.{Item}
@@ -38,6 +39,15 @@ pub on_ok : {T E : Type 0} (r : Result T E) (P : Type 0) → P → OnOk r P
 on_ok (Ok x) P p = p
 on_ok (Err e) P p = tt
 
+-- what feeding a session asks: its `\quit` is to come, and the line is none
+pub open-quits : {P : Type 0} (s : Session P) → IsOpen s → s.done < length s.section.lines
+open-quits s h =
+    let long : length s.section.lines ≡ length (h.ends.front ++ h.ends.last ∷ []) = ap (λ (ls : List ScriptLine). length ls) h.ends.split in
+    omega (arith, long, h.begun, length-append h.ends.front (h.ends.last ∷ []))
+
+pub runs-on : (line : ScriptLine) → RunsCommand line → line.act ≢ Quit
+runs-on line runs is = let both : Run runs.0 ≡ Quit = sym runs.1 ∙ is in let no : ⊥ = cc in no
+
 -- what holds of a session whose script was fed, or was not
 pub fed-section : {P : Type 0} (old new : Session P) (line : ScriptLine) → new ≡ record old { section = fed old.section line } → new.section ≡ fed old.section line
 fed-section {P} old new line e = ap (λ (s : Session P). s.section) e
@@ -55,6 +65,9 @@ client-same {P} old new e = subst (λ (s : Session P). IsSameClient old s) (sym 
 pub not-fed : {P : Type 0} (shape : Shape) (known : P → Known) (old new : Session P) → new ≡ old → HasRest shape known old → HasStopped shape known old new
 not-fed {P} shape known old new e rested =
     subst (λ (s : Session P). HasStopped shape known old s) (sym e) (record { stood = stood-rest shape known old rested; behind = []; shown = sym (append-nil old.items.items); line = tt; same = refl })
+
+pub same-own : {P : Type 0} (is_own : P → Type 0) (old new : Session P) → new ≡ old → is_own old.pass → is_own new.pass
+same-own {P} is_own old new e h = subst (λ (s : Session P). is_own s.pass) (sym e) h
 
 pub same-section : {P : Type 0} (old new : Session P) → new ≡ old → new.section ≡ old.section
 same-section {P} old new e = ap (λ (s : Session P). s.section) e

@@ -1,6 +1,6 @@
 use Rattle.std.proofs.Common.{inl, inr, ◌∙◌}
 use Rattle.pgn_session.proofs.OpenLaws.{fed-read, fed-runs_served, quit-same}
-use Rattle.pgn_wire.proofs.TakenLaws.{client-fed, client-read, client-same, fed-own, fed-section, not-fed, on_err, query-between, query-taken, read-refused, read-section, same-section, step-refused}
+use Rattle.pgn_wire.proofs.TakenLaws.{client-fed, client-read, client-same, fed-own, fed-section, not-fed, on_err, open-quits, query-between, query-taken, read-refused, read-section, runs-on, same-own, same-section, step-refused}
 use Rattle.pgn_wire.proofs.taking.take_query.Goals as goal
 
 pub feed-requires-clause-quits : goal.feed-requires-clause-quits
@@ -8,6 +8,12 @@ feed-requires-clause-quits g c κs within = c.requires.ready.is_open.ends
 
 pub feed-requires-clause-place : goal.feed-requires-clause-place
 feed-requires-clause-place g c κs within = c.requires.ready.is_open.between
+
+pub feed-requires-clause-before_last : goal.feed-requires-clause-before_last
+feed-requires-clause-before_last g c κs within = open-quits c.args.session.now c.requires.ready.is_open
+
+pub feed-requires-clause-goes_on : goal.feed-requires-clause-goes_on
+feed-requires-clause-goes_on g c κs within = runs-on c.args.line c.requires.runs
 
 pub step-requires-clause-served : goal.step-requires-clause-served
 step-requires-clause-served g c κs within =
@@ -22,6 +28,9 @@ step-requires-clause-rested g c κs within = c.in_ok-feed.ensures.rested (g.H.Hu
 
 pub step-requires-clause-read_first : goal.step-requires-clause-read_first
 step-requires-clause-read_first g c κs within = fed-read g.P.PassView.known c.args.session.now c.feed.new.self c.args.line c.in_ok-feed.ensures.fed c.requires.ready.read_up
+
+pub returns-in_err-feed-clause-own : goal.returns-in_err-feed-clause-own
+returns-in_err-feed-clause-own g c = same-own (g.H.Hub.is_pass c.args.hub.now) c.args.session.now c.feed.new.self c.in_err-feed.ensures.unchanged c.requires.ready.own
 
 pub returns-in_err-feed-clause-same : goal.returns-in_err-feed-clause-same
 returns-in_err-feed-clause-same g c = client-same c.args.session.now c.feed.new.self c.in_err-feed.ensures.unchanged
