@@ -1,7 +1,8 @@
 use crate::printer::{put, put_effect, state_text};
-use crate::readings::command_of;
-use pgn_base::Seed;
-use pgn_block::{Block, Effect};
+use crate::readings::{NO_LINE, command_of};
+use pgn_answers::BlockState;
+use pgn_base::{Command, Seed};
+use pgn_block::Block;
 use std::alloc::Global;
 
 // The line that drops a block, as the end of a session does.
@@ -19,35 +20,40 @@ pub fn put_block(text: &mut Vec<u8>, alloc: Global, case: &str) {
 
 // A line, and on the same line what it is answered, and the new state where it changes.
 fn put_answer(text: &mut Vec<u8>, alloc: Global, block: &mut Block, line: &str) {
-    let before = state_text(block.state());
+    let before = block.state();
     put(text, line.as_bytes());
     put(text, b": ");
-    if line == DROP {
-        block.drop_block();
-        put(text, b"dropped");
-    } else {
-        put_step(text, alloc, block, line);
-    }
-    let after = state_text(block.state());
-    if after != before {
-        put(text, b" -> ");
-        put(text, after);
-    }
+    put_line_answer(text, alloc, block, line);
+    put_change(text, before, block.state());
     put(text, b"\n");
 }
 
-fn put_step(text: &mut Vec<u8>, alloc: Global, block: &mut Block, line: &str) {
-    match effect_of(alloc, block, line) {
-        Some(effect) => {
-            put_effect(text, &effect);
-            drop(effect);
-        }
-        None => put(text, b"no line, or no memory"),
+fn put_change(text: &mut Vec<u8>, before: BlockState, after: BlockState) {
+    let now = state_text(after);
+    if now != state_text(before) {
+        put(text, b" -> ");
+        put(text, now);
     }
 }
 
-// What a line comes to in a block.
-fn effect_of(alloc: Global, block: &mut Block, line: &str) -> Option<Effect> {
-    let command = command_of(alloc, line)?;
-    block.step(command).ok()
+fn put_line_answer(text: &mut Vec<u8>, alloc: Global, block: &mut Block, line: &str) {
+    if line == DROP {
+        block.drop_block();
+        put(text, b"dropped");
+        return;
+    }
+    match command_of(alloc, line) {
+        Some(command) => put_step(text, block, command),
+        None => put(text, NO_LINE),
+    }
+}
+
+fn put_step(text: &mut Vec<u8>, block: &mut Block, command: Command) {
+    match block.step(command) {
+        Ok(effect) => {
+            put_effect(text, &effect);
+            drop(effect);
+        }
+        Err(_) => put(text, NO_LINE),
+    }
 }

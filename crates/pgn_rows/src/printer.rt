@@ -34,51 +34,73 @@ fn put_note(text: &mut Vec<u8>, words: &[u8], note: &Note) {
 
 /// Puts what a line of SQL asks for.
 pub fn put_command(text: &mut Vec<u8>, command: &Command) {
+    put(text, command_text(command));
     match command {
-        Command::Empty => put(text, b"nothing"),
-        Command::Begin => put(text, b"begin"),
-        Command::Start => put(text, b"start transaction"),
-        Command::Commit => put(text, b"commit"),
-        Command::Rollback => put(text, b"rollback"),
-        Command::Savepoint(name) => put_named(text, b"savepoint", name),
-        Command::RollbackTo(name) => put_named(text, b"rollback to", name),
-        Command::Release(name) => put_named(text, b"release", name),
-        Command::Listen(name) => put_named(text, b"listen", name),
-        Command::Unlisten(name) => put_named(text, b"unlisten", name),
-        Command::UnlistenAll => put(text, b"unlisten all"),
-        Command::Notify(note) => put_note(text, b"notify", note),
-        Command::PgNotify(note) => put_note(text, b"pg_notify", note),
-        Command::ListeningChannels => put(text, b"listening channels"),
-        Command::QueueUsage => put(text, b"queue usage"),
-        Command::Invalid { which } => put(text, which_text(*which)),
-        Command::Bad { at } => put_number(text, b"wrong at byte ", u64::from(*at)),
+        Command::Savepoint(name)
+        | Command::RollbackTo(name)
+        | Command::Release(name)
+        | Command::Listen(name)
+        | Command::Unlisten(name) => put_named(text, b"", name),
+        Command::Notify(note) | Command::PgNotify(note) => put_note(text, b"", note),
+        Command::Bad { at } => put_number(text, b"", u64::from(*at)),
+        _ => {}
+    }
+}
+
+fn command_text(command: &Command) -> &'static [u8] {
+    match command {
+        Command::Empty => b"nothing",
+        Command::Begin => b"begin",
+        Command::Start => b"start transaction",
+        Command::Commit => b"commit",
+        Command::Rollback => b"rollback",
+        Command::Savepoint(_) => b"savepoint",
+        Command::RollbackTo(_) => b"rollback to",
+        Command::Release(_) => b"release",
+        Command::Listen(_) => b"listen",
+        Command::Unlisten(_) => b"unlisten",
+        Command::UnlistenAll => b"unlisten all",
+        Command::Notify(_) => b"notify",
+        Command::PgNotify(_) => b"pg_notify",
+        Command::ListeningChannels => b"listening channels",
+        Command::QueueUsage => b"queue usage",
+        Command::Invalid { which } => which_text(*which),
+        Command::Bad { .. } => b"wrong at byte ",
     }
 }
 
 /// Puts why an input is no scenario.
 pub fn put_fault(text: &mut Vec<u8>, fault: ScenarioFault) {
     match fault {
-        ScenarioFault::TooLarge => put(text, b"too large"),
-        ScenarioFault::LineTooLong { line } => put_at_line(text, line, b"too long"),
-        ScenarioFault::NotUtf8 { at } => put_number(text, b"not UTF-8 at byte ", u64::from(at)),
-        ScenarioFault::NulByte { line } => put_at_line(text, line, b"zero byte"),
-        ScenarioFault::BadMeta { line } => put_at_line(text, line, b"bad meta line"),
-        ScenarioFault::NoSession { line } => put_at_line(text, line, b"before the first section"),
-        ScenarioFault::SameName { line } => put_at_line(text, line, b"name of an earlier section"),
-        ScenarioFault::TooMany { line } => put_at_line(text, line, b"too many"),
-        ScenarioFault::Empty => put(text, b"no section"),
-        ScenarioFault::NeverSignalled { line } => put_at_line(
-            text,
-            line,
-            b"flag is never signalled",
-        ),
+        ScenarioFault::LineTooLong { line }
+        | ScenarioFault::NulByte { line }
+        | ScenarioFault::BadMeta { line }
+        | ScenarioFault::NoSession { line }
+        | ScenarioFault::SameName { line }
+        | ScenarioFault::TooMany { line }
+        | ScenarioFault::NeverSignalled { line } => {
+            put_number(text, b"line ", u64::from(line));
+            put(text, b": ");
+            put(text, fault_text(fault));
+        }
+        ScenarioFault::NotUtf8 { at } => put_number(text, fault_text(fault), u64::from(at)),
+        ScenarioFault::TooLarge | ScenarioFault::Empty => put(text, fault_text(fault)),
     }
 }
 
-fn put_at_line(text: &mut Vec<u8>, line: u32, what: &[u8]) {
-    put_number(text, b"line ", u64::from(line));
-    put(text, b": ");
-    put(text, what);
+fn fault_text(fault: ScenarioFault) -> &'static [u8] {
+    match fault {
+        ScenarioFault::TooLarge => b"too large",
+        ScenarioFault::LineTooLong { .. } => b"too long",
+        ScenarioFault::NotUtf8 { .. } => b"not UTF-8 at byte ",
+        ScenarioFault::NulByte { .. } => b"zero byte",
+        ScenarioFault::BadMeta { .. } => b"bad meta line",
+        ScenarioFault::NoSession { .. } => b"before the first section",
+        ScenarioFault::SameName { .. } => b"name of an earlier section",
+        ScenarioFault::TooMany { .. } => b"too many",
+        ScenarioFault::Empty => b"no section",
+        ScenarioFault::NeverSignalled { .. } => b"flag is never signalled",
+    }
 }
 
 /// Puts the flags, and then each section with its lines.
@@ -141,17 +163,24 @@ pub fn put_effect(text: &mut Vec<u8>, effect: &Effect) {
 }
 
 fn put_tag(text: &mut Vec<u8>, tag: Tag) {
+    put(text, tag_text(tag));
+    if let Tag::Select(rows) = tag {
+        put_number(text, b"", u64::from(rows));
+    }
+}
+
+fn tag_text(tag: Tag) -> &'static [u8] {
     match tag {
-        Tag::Begin => put(text, b"BEGIN"),
-        Tag::Start => put(text, b"START TRANSACTION"),
-        Tag::Commit => put(text, b"COMMIT"),
-        Tag::Rollback => put(text, b"ROLLBACK"),
-        Tag::Savepoint => put(text, b"SAVEPOINT"),
-        Tag::Release => put(text, b"RELEASE"),
-        Tag::Listen => put(text, b"LISTEN"),
-        Tag::Unlisten => put(text, b"UNLISTEN"),
-        Tag::Notify => put(text, b"NOTIFY"),
-        Tag::Select(rows) => put_number(text, b"SELECT ", u64::from(rows)),
+        Tag::Begin => b"BEGIN",
+        Tag::Start => b"START TRANSACTION",
+        Tag::Commit => b"COMMIT",
+        Tag::Rollback => b"ROLLBACK",
+        Tag::Savepoint => b"SAVEPOINT",
+        Tag::Release => b"RELEASE",
+        Tag::Listen => b"LISTEN",
+        Tag::Unlisten => b"UNLISTEN",
+        Tag::Notify => b"NOTIFY",
+        Tag::Select(_) => b"SELECT ",
     }
 }
 

@@ -4,6 +4,9 @@ use pgn_command::parse_line;
 use pgn_scenario::read_scenario;
 use std::alloc::{AllocError, Global};
 
+/// What stands in place of a command that is not there.
+pub const NO_LINE: &[u8] = b"no line, or no memory";
+
 /// Puts what a line of SQL reads as.
 pub fn put_line(text: &mut Vec<u8>, alloc: Global, line: &str) {
     match command_of(alloc, line) {
@@ -11,7 +14,7 @@ pub fn put_line(text: &mut Vec<u8>, alloc: Global, line: &str) {
             put_command(text, &command);
             drop(command);
         }
-        None => put(text, b"no line, or no memory"),
+        None => put(text, NO_LINE),
     }
     put(text, b"\n");
 }
@@ -21,7 +24,10 @@ pub fn command_of(alloc: Global, line: &str) -> Option<Command> {
     if line.len() > LINE_BYTES_MAX || line.as_bytes().contains(&0) {
         return None;
     }
-    parse_line(alloc, line).ok()
+    match parse_line(alloc, line) {
+        Ok(command) => Some(command),
+        Err(AllocError) => None,
+    }
 }
 
 /// Puts what a case reads as: its fault or its scenario.

@@ -1,5 +1,5 @@
 use Rattle.std.proofs.Common.{length}
 use Rattle.pgn_rows.proofs.parts.write_out.Given as goal
 
-abbrev pub decreases-loop-at : goal.decreases-loop-at
-decreases-loop-at l = length l.rest
+abbrev pub decreases-loop-part : goal.decreases-loop-part
+decreases-loop-part l = length l.rest
