@@ -13,9 +13,12 @@ use Rattle.pgn_run.specs.Conversation.{BreaksOff}
 use Rattle.pgn_run.specs.declared.status.Status.{Status}
 use Rattle.pgn_run.specs.declared.status.Status.TheVariants.{Done, BadWords, BadScenario, ReadFault, WriteFault, NoMemory, BadWire, Illegal, NoOutput, CheckTooLarge, BadFrame}
 use Rattle.pgn_frames.specs.declared.frame_fault.FrameFault.{FrameFault}
-use Rattle.pgn_run.specs.Run.{AskToCheck, asked_settings, code_of}
+use Rattle.pgn_run.specs.Run.{code_of}
+use Rattle.pgn_run.proofs.ConversationLaws.{unopened-known}
+use Rattle.pgn_cli.specs.declared.arguments.NoWords.{NoWords}
+use Rattle.pgn_cli.specs.declared.arguments.NoWords.TheVariants.{Memory, NotText}
 use Rattle.pgn_cli.specs.FaultLine.{fault_text}
-use Rattle.pgn_cli.specs.Program.{IsFaulty, IsRefused, NamesFault, NamesWireFault, SaysBadFrame, SaysIllegal, ServesUpTo}
+use Rattle.pgn_cli.specs.Program.{Comes, IsFaulty, IsRefused, NamesFault, NamesWireFault, SaysBadFrame, SaysIllegal, ServesUpTo, texts_of}
 
 -- a whole text is a prefix of itself
 whole-prefix : (old new : Option (List ℕ)) (text : List ℕ) → Appends old new text → AppendsPrefix old new text
@@ -33,17 +36,100 @@ pub written-whole : {T E : Type 0} (old new : Option (List ℕ)) (before now : �
 written-whole old new before now (Ok x) text h cause none = h
 written-whole old new before now (Err e) text h cause none = absurd (none cause.failed)
 
--- what holds of words that are there
-pub is-ok-and : {T E : Type 0} (words : Result T E) (w : T) (P : T → Type 0) → words ≡ Ok w → P w → IsOkAnd words P
-is-ok-and {T} {E} words w P is h = subst (λ (r : Result T E). IsOkAnd r P) (sym is) h
+-- what holds of the texts of words that are there holds of the words
+pub of-ok-and : {T : Type 0} (words : Result T NoWords) (of : T → List (List ℕ)) (P : List (List ℕ) → Type 0) → IsOkAnd (texts_of words of) P → IsOkAnd words (λ w. P (of w))
+of-ok-and (Ok w) of P h = h
+of-ok-and (Err why) of P h = h
 
--- what holds of the words that were read holds where words were read
-pub if-ok : {T E : Type 0} (words : Result T E) (w : T) (P : T → Type 0) → words ≡ Ok w → P w → IfOk words P
-if-ok {T} {E} words w P is h = subst (λ (r : Result T E). IfOk r P) (sym is) h
+pub of-if-ok : {T : Type 0} (words : Result T NoWords) (of : T → List (List ℕ)) (P : List (List ℕ) → Type 0) → IfOk (texts_of words of) P → IfOk words (λ w. P (of w))
+of-if-ok (Ok w) of P h = h
+of-if-ok (Err why) of P h = h
 
--- and what holds where words were read holds of those that were
-pub of-ok : {T E : Type 0} (words : Result T E) (w : T) (P : T → Type 0) → words ≡ Ok w → IfOk words P → P w
-of-ok {T} {E} words w P is h = subst (λ (r : Result T E). IfOk r P) is h
+-- and what holds of the words holds of their texts
+pub to-if-ok : {T : Type 0} (words : Result T NoWords) (of : T → List (List ℕ)) (P : List (List ℕ) → Type 0) → IfOk words (λ w. P (of w)) → IfOk (texts_of words of) P
+to-if-ok (Ok w) of P h = h
+to-if-ok (Err why) of P h = h
+
+-- what holds of all words holds of those that are there
+if-any : {T E : Type 0} (words : Result T E) (P : T → Type 0) → ((w : T) → P w) → IfOk words P
+if-any (Ok w) P h = h w
+if-any (Err e) P h = tt
+
+-- what words come to where memory does not suffice before they are read
+pub comes-to_no_memory : (words : Result (List (List ℕ)) NoWords) (left held : Option (List ℕ)) (read wrote : ℕ) → (words ≢ Err NotText) → Comes words left read read held held wrote wrote NoMemory
+comes-to_no_memory words left held read wrote text = record {
+  done = λ e. absurd (cc);
+  bad_scenario = λ fault e. absurd (cc);
+  bad_wire = λ fault e. absurd (cc);
+  bad_frame = λ fault e. absurd (cc);
+  illegal = λ line e. absurd (cc);
+  no_output = λ e. absurd (cc);
+  check_too_large = λ e. absurd (cc);
+  read_fault = λ e. absurd (cc);
+  read_fault_where_due = λ served rose. absurd (omega (arith, rose));
+  read_fault_where_served = if-any words _ (λ w ask rose. absurd (omega (arith, rose)));
+  write_fault = λ e. absurd (cc);
+  write_fault_where_due = λ rose. absurd (omega (arith, rose));
+  write_fault_writes_a_prefix = λ e. absurd (cc);
+  refused_writes_nothing = λ refused. refl;
+  read_fault_writes_nothing = λ other served e. refl;
+  read_fault_writes_answers = if-any words _ (λ w ask e. absurd (cc));
+  read_fault_writes_what_was_told = if-any words _ (λ w e. absurd (cc));
+  no_memory_writes_nothing = λ once other served e. refl;
+  no_memory_writes_first_lines = if-any words _ (λ w ask e. inl refl);
+  no_memory_writes_whole_answers = if-any words _ (λ w ask e. unopened-known left held);
+  no_memory_writes_whole_turns = if-any words _ (λ w e ask. inl refl);
+  no_memory = λ e. refl;
+  not_text = λ e. absurd (text e);
+  right_words = if-any words _ (λ w e. absurd (cc));
+  other_words = if-any words _ (λ w other memory. absurd (memory refl));
+}
+
+-- what they come to where one of them is no text
+comes-to_bad_words : (left held : Option (List ℕ)) (read wrote : ℕ) → Comes (Err NotText) left read read held held wrote wrote BadWords
+comes-to_bad_words left held read wrote = record {
+  done = λ e. absurd (cc);
+  bad_scenario = λ fault e. absurd (cc);
+  bad_wire = λ fault e. absurd (cc);
+  bad_frame = λ fault e. absurd (cc);
+  illegal = λ line e. absurd (cc);
+  no_output = λ e. absurd (cc);
+  check_too_large = λ e. absurd (cc);
+  read_fault = λ e. absurd (cc);
+  read_fault_where_due = λ served rose. absurd (omega (arith, rose));
+  read_fault_where_served = tt;
+  write_fault = λ e. absurd (cc);
+  write_fault_where_due = λ rose. absurd (omega (arith, rose));
+  write_fault_writes_a_prefix = λ e. absurd (cc);
+  refused_writes_nothing = λ refused. refl;
+  read_fault_writes_nothing = λ other served e. refl;
+  read_fault_writes_answers = tt;
+  read_fault_writes_what_was_told = tt;
+  no_memory_writes_nothing = λ once other served e. refl;
+  no_memory_writes_first_lines = tt;
+  no_memory_writes_whole_answers = tt;
+  no_memory_writes_whole_turns = tt;
+  no_memory = λ e. absurd (cc);
+  not_text = λ e. refl;
+  right_words = tt;
+  other_words = tt;
+}
+
+-- of words for which memory did not suffice none is known to be no text
+pub no-text : {T : Type 0} (words : Result T NoWords) (of : T → List (List ℕ)) → words ≡ Err Memory → (texts_of words of ≢ Err NotText)
+no-text words of is e = let both = sym (ap (λ r. texts_of r of) is) ∙ e in absurd (cc)
+
+-- and words of which one is none come to what is said of such
+pub bad-words-come : {T : Type 0} (words : Result T NoWords) (of : T → List (List ℕ)) (left held : Option (List ℕ)) (read wrote : ℕ) → words ≡ Err NotText
+    → Comes (texts_of words of) left read read held held wrote wrote BadWords
+bad-words-come words of left held read wrote is =
+    subst (λ (r : Result (List (List ℕ)) NoWords). Comes r left read read held held wrote wrote BadWords) (sym (ap (λ r. texts_of r of) is)) (comes-to_bad_words left held read wrote)
+
+-- what the texts of words come to the words come to
+pub comes-of : {T : Type 0} (words : Result T NoWords) (of : T → List (List ℕ)) (w : T) (texts : List (List ℕ)) (left : Option (List ℕ)) (read read_now : ℕ) (held now : Option (List ℕ)) (wrote wrote_now : ℕ) (status : Status)
+    → words ≡ Ok w → texts ≡ of w → Comes (Ok texts) left read read_now held now wrote wrote_now status → Comes (texts_of words of) left read read_now held now wrote wrote_now status
+comes-of words of w texts left read read_now held now wrote wrote_now status is same h =
+    subst (λ (r : Result (List (List ℕ)) NoWords). Comes r left read read_now held now wrote wrote_now status) (ap Ok same ∙ sym (ap (λ r. texts_of r of) is)) h
 
 -- words that are lent piece by piece are the same
 pub lent-words : {A : Type 0} (now : A → List ℕ) (slice texts : List A) (words : List (List ℕ)) → slice ≡ texts → map now texts ≡ words → map now slice ≡ words
@@ -55,14 +141,6 @@ pub texts-more : {A B : Type 0} (now : A → List ℕ) (bytes : B → List ℕ) 
 texts-more {A} {B} now bytes old new text words i word h e f less is =
     ap (λ (xs : List A). map now xs) e ∙ map-append now old (text ∷ []) ∙ ap (λ (bs : List (List ℕ)). bs ++ now text ∷ []) h
     ∙ ap (λ (b : List ℕ). map bytes (take i words) ++ b ∷ []) (f ∙ ap bytes is) ∙ sym (map_more bytes words i word less)
-
--- what holds of words holds of equal ones
-pub of-words : (P : List (List ℕ) → Type 0) (words others : List (List ℕ)) → words ≡ others → P words → P others
-of-words P words others same h = subst P same h
-
--- what does not hold of words does not hold of equal ones
-pub not-words : (P : List (List ℕ) → Type 0) (words others : List (List ℕ)) → words ≡ others → ¬ P others → ¬ P words
-not-words P words others same none h = none (subst P same h)
 
 -- other words end with the status of wrong words, unless memory did not suffice
 pub code-of_words : {T E : Type 0} (words : Result T E) (AreOther : T → Type 0) (status : Status) (code : ℕ) → code ≡ code_of status
@@ -142,6 +220,34 @@ refused-code WriteFault code is some = absurd (four-codes 5 code is (omega arith
 refused-code NoMemory code is some = absurd (four-codes 6 code is (omega arith) (omega arith) (omega arith) (omega arith) some)
 refused-code (BadWire found) code is some = absurd (four-codes 10 code is (omega arith) (omega arith) (omega arith) (omega arith) some)
 refused-code (Illegal line) code is some = absurd (four-codes 8 code is (omega arith) (omega arith) (omega arith) (omega arith) some)
+
+-- the status of a run that is done
+pub done-code : (status : Status) (code : ℕ) → code ≡ code_of status → code ≡ 0 → status ≡ Done
+done-code Done code is zero = refl
+done-code BadWords code is zero = absurd (omega (arith, is, zero))
+done-code (BadScenario found) code is zero = absurd (omega (arith, is, zero))
+done-code ReadFault code is zero = absurd (omega (arith, is, zero))
+done-code WriteFault code is zero = absurd (omega (arith, is, zero))
+done-code NoMemory code is zero = absurd (omega (arith, is, zero))
+done-code (BadWire found) code is zero = absurd (omega (arith, is, zero))
+done-code (Illegal line) code is zero = absurd (omega (arith, is, zero))
+done-code NoOutput code is zero = absurd (omega (arith, is, zero))
+done-code CheckTooLarge code is zero = absurd (omega (arith, is, zero))
+done-code (BadFrame found) code is zero = absurd (omega (arith, is, zero))
+
+-- the status of words that are no command
+pub bad-words-code : (status : Status) (code : ℕ) → code ≡ code_of status → code ≡ 2 → status ≡ BadWords
+bad-words-code Done code is two = absurd (omega (arith, is, two))
+bad-words-code BadWords code is two = refl
+bad-words-code (BadScenario found) code is two = absurd (omega (arith, is, two))
+bad-words-code ReadFault code is two = absurd (omega (arith, is, two))
+bad-words-code WriteFault code is two = absurd (omega (arith, is, two))
+bad-words-code NoMemory code is two = absurd (omega (arith, is, two))
+bad-words-code (BadWire found) code is two = absurd (omega (arith, is, two))
+bad-words-code (Illegal line) code is two = absurd (omega (arith, is, two))
+bad-words-code NoOutput code is two = absurd (omega (arith, is, two))
+bad-words-code CheckTooLarge code is two = absurd (omega (arith, is, two))
+bad-words-code (BadFrame found) code is two = absurd (omega (arith, is, two))
 
 -- the status of a read that failed
 pub read-fault-code : (status : Status) (code : ℕ) → code ≡ code_of status → code ≡ 4 → status ≡ ReadFault
@@ -251,14 +357,6 @@ pub says-illegal : (settings : Settings) (left old new : Option (List ℕ)) (lin
 says-illegal settings None old new line h = tt
 says-illegal settings (Some input) old new line h = record { line = line; judged = h.0; output = h.1 }
 
--- the same of equal words
-pub says-for : (words others : List (List ℕ)) (left old new : Option (List ℕ)) (line : ℕ)
-    → ((ask : AskToCheck words) × IfSome left (λ input. IsJudged (asked_settings ask) input (verdict.Illegal line) × Appends old new (verdict_text (verdict.Illegal line)))) → words ≡ others
-    → (ask : AskToCheck others) × IfSome left (SaysIllegal (asked_settings ask) old new)
-says-for words others left old new line h e =
-    subst (λ (ws : List (List ℕ)). (ask : AskToCheck ws) × IfSome left (SaysIllegal (asked_settings ask) old new)) e
-    (h.0, says-illegal (asked_settings h.0) left old new line h.1)
-
 -- of frames that are at fault
 frame-code : (status : Status) (code : ℕ) → code ≡ code_of status → code ≡ 12 → (fault : FrameFault) × (status ≡ BadFrame fault)
 frame-code Done code is twelve = absurd (omega (arith, is, twelve))
@@ -296,6 +394,12 @@ pub if-read : {T E : Type 0} (words : Result T E) (P : T → Type 0) (status : S
     → IfOk words (λ (w : T). status ≡ ReadFault → P w) → IfOk words (λ (w : T). code ≡ 4 → P w)
 if-read (Ok w) P status code is h = λ four. h (read-fault-code status code is four)
 if-read (Err e) P status code is h = h
+
+-- what words that are no command say by their status they say by the exit status 2
+pub if-bad : {T E : Type 0} (words : Result T E) (P : T → Type 0) (status : Status) (code : ℕ) → code ≡ code_of status
+    → IfOk words (λ (w : T). status ≡ BadWords → P w) → IfOk words (λ (w : T). code ≡ 2 → P w)
+if-bad (Ok w) P status code is h = λ two. h (bad-words-code status code is two)
+if-bad (Err e) P status code is h = h
 
 -- what want of memory says by its status it says by the exit status 6
 pub if-memory : {T E : Type 0} (words : Result T E) (P : T → Type 0) (status : Status) (code : ℕ) → code ≡ code_of status

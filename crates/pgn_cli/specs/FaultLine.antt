@@ -8,6 +8,13 @@ use Rattle.pgn_queries.specs.declared.wire_fault.WireFault.{WireFault}
 use Rattle.pgn_queries.specs.declared.wire_fault.WireFault.TheVariants.{BadType, BadLength, Truncated, BadText, TooMany as TooManyQueries}
 use Rattle.pgn_frames.specs.declared.frame_fault.FrameFault.{FrameFault}
 use Rattle.pgn_frames.specs.declared.frame_fault.FrameFault.TheVariants.{CutFrame, NoSeat}
+use Rattle.pgn_cli.specs.declared.fault_line.Line.{Line}
+use Rattle.pgn_cli.specs.declared.fault_line.Line.TheVariants.{Text, Numbered}
+
+-- what a line is
+abbrev pub line_text : Line → List ℕ
+line_text (Text text) = text.now
+line_text (Numbered head number tail) = head.now ++ decimal number ++ tail.now
 
 -- what is wrong at a line
 abbrev pub line_fault : ℕ → List ℕ → List ℕ

@@ -1,5 +1,5 @@
 -- How the program ends.
-use Rattle.std.specs.Prelude.{◌≡◌, ◌⊎◌, ℕ, List, Option, Some, Err, IfSome}
+use Rattle.std.specs.Prelude.{◌≡◌, ◌≢◌, ◌⊎◌, ℕ, ◌<◌, List, Option, Some, Result, Ok, Err, IfOk, IfSome, IsOkAnd}
 use Rattle.std.specs.Io.KnownBytes.{Appends}
 use Rattle.std.specs.declared.io.ErrorKind.{ErrorKind}
 use Rattle.std.specs.declared.io.ErrorKind.TheVariants.{OutOfMemory}
@@ -9,13 +9,15 @@ use Rattle.pgn_language.specs.Inputs.{ReadsAsScenario}
 use Rattle.pgn_queries.specs.declared.wire_fault.WireFault.{WireFault}
 use Rattle.pgn_check.specs.declared.check.Verdict.TheVariants as verdict
 use Rattle.pgn_model.specs.Walk.{Settings}
-use Rattle.pgn_run.specs.Checking.{HasFault, IsJudged, verdict_text}
-use Rattle.pgn_run.specs.Conversation.{BreaksOff}
+use Rattle.pgn_options.specs.Words.{AreNoCommand}
+use Rattle.pgn_wire.specs.Serving.{WroteWhole}
+use Rattle.pgn_run.specs.Checking.{HasFault, HasNoOutput, IsJudged, IsTooLarge, verdict_text}
+use Rattle.pgn_run.specs.Conversation.{BreaksOff, StopsAmong, StopsBetween}
 use Rattle.pgn_run.specs.declared.status.Status.{Status}
-use Rattle.pgn_run.specs.declared.status.Status.TheVariants.{BadWords, BadScenario, NoOutput, CheckTooLarge}
+use Rattle.pgn_run.specs.declared.status.Status.TheVariants.{Done, BadWords, BadScenario, ReadFault, WriteFault, NoMemory, BadWire, Illegal, NoOutput, CheckTooLarge, BadFrame}
 use Rattle.pgn_frames.specs.declared.frame_fault.FrameFault.{FrameFault}
 use Rattle.pgn_run.specs.Service.{ServesAll, ServesFirst, StopsServing}
-use Rattle.pgn_run.specs.Run.{AskToServe, code_of}
+use Rattle.pgn_run.specs.Run.{AskToCheck, AskToRunLive, AskToServe, AskToWire, Performs, PerformsInPart, SoFarRuns, asked_settings, code_of, settings_with}
 use Rattle.pgn_cli.specs.FaultLine.{fault_text, frame_fault_text, scenario_fault_text, wire_fault_text}
 use Rattle.pgn_cli.specs.declared.arguments.NoWords.{NoWords}
 use Rattle.pgn_cli.specs.declared.arguments.NoWords.TheVariants.{Memory, NotText}
@@ -83,3 +85,38 @@ ServedFirst words left held now = (ask : AskToServe words) → IfSome left (λ b
 -- where they do, nothing was written, or whole turns
 abbrev pub ServedInPart : List (List ℕ) → Option (List ℕ) → Option (List ℕ) → Option (List ℕ) → Type 0
 ServedInPart words left held now = (ask : AskToServe words) → (now ≡ held) ⊎ IfSome left (λ bytes. StopsServing ask.seats bytes (Appends held now))
+
+-- the words, as bytes, where they are there
+abbrev pub texts_of : {T : Type 0} → Result T NoWords → (T → List (List ℕ)) → Result (List (List ℕ)) NoWords
+texts_of (Ok words) of = Ok (of words)
+texts_of (Err why) of = Err why
+
+-- what words come to, `left` being what was left of the source: of the source and of the sink, each the count of faults before and now
+pub record Comes (words : Result (List (List ℕ)) NoWords) (left : Option (List ℕ)) (read read_now : ℕ) (held now : Option (List ℕ)) (wrote wrote_now : ℕ) (status : Status) : Type 0 where
+  pub done : status ≡ Done → IsOkAnd words (λ words. Performs words left (Appends held now))
+  pub bad_scenario : (fault : ScenarioFault) → status ≡ BadScenario fault → IfSome left (λ input. IsFaulty input fault)
+  pub bad_wire : (fault : WireFault) → status ≡ BadWire fault → IsOkAnd words AskToWire × IfSome left (λ bytes. BreaksOff bytes fault (Appends held now))
+  pub bad_frame : (fault : FrameFault) → status ≡ BadFrame fault → IsOkAnd words (λ words. ServesUpTo words fault left held now)
+  pub illegal : (line : ℕ) → status ≡ Illegal line → IsOkAnd words (λ words. (ask : AskToCheck words) × IfSome left (SaysIllegal (asked_settings ask) held now))
+  pub no_output : status ≡ NoOutput → IsOkAnd words AskToCheck × IfSome left HasNoOutput
+  pub check_too_large : status ≡ CheckTooLarge → IsOkAnd words AskToCheck × IfSome left IsTooLarge
+  pub read_fault : status ≡ ReadFault → Rose read read_now
+  pub read_fault_where_due : IfOk words (λ words. ¬ AskToServe words) → read < read_now → status ≡ ReadFault
+  pub read_fault_where_served : IfOk words (λ words. AskToServe words → read < read_now → (status ≡ ReadFault) ⊎ (status ≡ WriteFault) ⊎ (status ≡ NoMemory))
+  pub write_fault : status ≡ WriteFault → Rose wrote wrote_now
+  pub write_fault_where_due : wrote < wrote_now → status ≡ WriteFault
+  pub write_fault_writes_a_prefix : status ≡ WriteFault → IsOkAnd words (λ words. PerformsInPart words left (AppendsPrefix held now))
+  pub refused_writes_nothing : IsRefused status → now ≡ held
+  pub read_fault_writes_nothing : IfOk words (λ words. ¬ AskToWire words) → IfOk words (λ words. ¬ AskToServe words) → status ≡ ReadFault → now ≡ held
+  pub read_fault_writes_answers : IfOk words (λ words. AskToWire words → status ≡ ReadFault → IfSome left (λ bytes. StopsBetween bytes (Appends held now)))
+  pub read_fault_writes_what_was_told : IfOk words (λ words. status ≡ ReadFault → ServedFirst words left held now)
+  pub no_memory_writes_nothing : IfOk words (λ words. ¬ AskToRunLive words) → IfOk words (λ words. ¬ AskToWire words) → IfOk words (λ words. ¬ AskToServe words)
+      → status ≡ NoMemory → now ≡ held
+  pub no_memory_writes_first_lines : IfOk words (λ words. (ask : AskToRunLive words) → status ≡ NoMemory
+      → (now ≡ held) ⊎ IfSome left (λ input. SoFarRuns (settings_with ask.pages ask.patience ask.format) input (Appends held now)))
+  pub no_memory_writes_whole_answers : IfOk words (λ words. AskToWire words → status ≡ NoMemory → IfSome left (λ bytes. StopsAmong bytes (WroteWhole held now)))
+  pub no_memory_writes_whole_turns : IfOk words (λ words. status ≡ NoMemory → ServedInPart words left held now)
+  pub no_memory : words ≡ Err Memory → status ≡ NoMemory
+  pub not_text : words ≡ Err NotText → status ≡ BadWords
+  pub right_words : IfOk words (λ words. status ≡ BadWords → AreNoCommand words)
+  pub other_words : IfOk words (λ words. AreNoCommand words → status ≢ NoMemory → status ≡ BadWords)

@@ -1,6 +1,6 @@
 ghost use Rattle.std.specs.Prelude.{◌≡◌, ◌++◌, decimal};
 ghost use Rattle.pgn_base.specs.Outside.{Writes, HasCause};
-ghost use Rattle.pgn_cli.specs.FaultLine.{at_of, at_of_frame, byte_fault, fault_text, frame_fault_text, line_fault, scenario_fault_text, wire_fault_text};
+ghost use Rattle.pgn_cli.specs.FaultLine.{at_of, at_of_frame, fault_text, line_text, scenario_fault_text};
 
 use itoa::Buffer;
 use pgn_base::{Failed, Sink, write_all};
@@ -15,71 +15,65 @@ pub fn fault_line<K: Sink>(sink: &mut K, status: &Status) -> Result<(), Failed>
     ensures bytes { Writes (K.held sink.old) (K.held sink.new) result (fault_text status.now) }
     ensures cause { HasCause (K.faults sink.old) (K.faults sink.new) result }
 {
+    match line_of(status) {
+        Line::Text(text) => write_all(sink, text),
+        Line::Numbered(head, number, tail) => numbered(sink, head, number, tail),
+    }
+}
+
+/// The line of an outcome: a text, or a number between two texts.
+pub enum Line {
+    Text(&'static [u8]),
+    Numbered(&'static [u8], u64, &'static [u8]),
+}
+
+const LINE: &[u8] = b"pgnotify: line ";
+
+const BYTE: &[u8] = b"pgnotify: byte ";
+
+fn line_of(status: &Status) -> Line
+    ensures { line_text result ≡ fault_text status.now }
+{
     match status {
-        Status::Done => Ok(()),
-        Status::BadWords => write_all(
-            sink,
+        Status::Done => Line::Text(b""),
+        Status::BadWords => Line::Text(
             b"usage: pgnotify run [--pages N] [--patience N] [--format N] [--live] or pgnotify drill SEED SESSIONS NOTES or pgnotify wire or pgnotify serve [--seats N] or pgnotify check [--pages N] [--patience N] [--format N]\n",
         ),
-        Status::BadScenario(fault) => scenario_fault_line(sink, *fault),
-        Status::ReadFault => write_all(sink, b"pgnotify: read failed\n"),
-        Status::WriteFault => write_all(sink, b"pgnotify: write failed\n"),
-        Status::NoMemory => write_all(sink, b"pgnotify: out of memory\n"),
-        Status::BadWire(fault) => wire_fault_line(sink, *fault),
-        Status::Illegal { .. } => write_all(sink, b"pgnotify: output is not legal\n"),
-        Status::NoOutput => write_all(sink, b"pgnotify: no output part\n"),
-        Status::CheckTooLarge => write_all(
-            sink,
-            b"pgnotify: check input is larger than 67108864 bytes\n",
-        ),
-        Status::BadFrame(fault) => frame_fault_line(sink, *fault),
+        Status::BadScenario(fault) => scenario_line(*fault),
+        Status::ReadFault => Line::Text(b"pgnotify: read failed\n"),
+        Status::WriteFault => Line::Text(b"pgnotify: write failed\n"),
+        Status::NoMemory => Line::Text(b"pgnotify: out of memory\n"),
+        Status::BadWire(fault) => Line::Numbered(BYTE, offset(*fault), b": bad message\n"),
+        Status::Illegal { .. } => Line::Text(b"pgnotify: output is not legal\n"),
+        Status::NoOutput => Line::Text(b"pgnotify: no output part\n"),
+        Status::CheckTooLarge => {
+            Line::Text(b"pgnotify: check input is larger than 67108864 bytes\n")
+        }
+        Status::BadFrame(fault) => Line::Numbered(BYTE, frame_offset(*fault), b": bad frame\n"),
     }
 }
 
-fn scenario_fault_line<K: Sink>(sink: &mut K, fault: ScenarioFault) -> Result<(), Failed>
-    ensures bytes { Writes (K.held sink.old) (K.held sink.new) result (scenario_fault_text fault) }
-    ensures cause { HasCause (K.faults sink.old) (K.faults sink.new) result }
+fn scenario_line(fault: ScenarioFault) -> Line
+    ensures { line_text result ≡ scenario_fault_text fault }
 {
     match fault {
-        ScenarioFault::TooLarge => write_all(
-            sink,
-            b"pgnotify: input is larger than 16777216 bytes\n",
-        ),
-        ScenarioFault::LineTooLong { line } => at_line(sink, line, b": line too long\n"),
-        ScenarioFault::NotUtf8 { at } => at_byte(sink, at, b": not UTF-8\n"),
-        ScenarioFault::NulByte { line } => at_line(sink, line, b": zero byte\n"),
-        ScenarioFault::BadMeta { line } => at_line(sink, line, b": bad meta line\n"),
-        ScenarioFault::NoSession { line } => at_line(sink, line, b": no session\n"),
-        ScenarioFault::SameName { line } => at_line(sink, line, b": session name used twice\n"),
-        ScenarioFault::TooMany { line } => at_line(sink, line, b": too many\n"),
-        ScenarioFault::Empty => write_all(sink, b"pgnotify: no session\n"),
-        ScenarioFault::NeverSignalled { line } => at_line(
-            sink,
-            line,
-            b": flag is never signalled\n",
-        ),
+        ScenarioFault::TooLarge => Line::Text(b"pgnotify: input is larger than 16777216 bytes\n"),
+        ScenarioFault::LineTooLong { line } => {
+            Line::Numbered(LINE, line as u64, b": line too long\n")
+        }
+        ScenarioFault::NotUtf8 { at } => Line::Numbered(BYTE, at as u64, b": not UTF-8\n"),
+        ScenarioFault::NulByte { line } => Line::Numbered(LINE, line as u64, b": zero byte\n"),
+        ScenarioFault::BadMeta { line } => Line::Numbered(LINE, line as u64, b": bad meta line\n"),
+        ScenarioFault::NoSession { line } => Line::Numbered(LINE, line as u64, b": no session\n"),
+        ScenarioFault::SameName { line } => {
+            Line::Numbered(LINE, line as u64, b": session name used twice\n")
+        }
+        ScenarioFault::TooMany { line } => Line::Numbered(LINE, line as u64, b": too many\n"),
+        ScenarioFault::Empty => Line::Text(b"pgnotify: no session\n"),
+        ScenarioFault::NeverSignalled { line } => {
+            Line::Numbered(LINE, line as u64, b": flag is never signalled\n")
+        }
     }
-}
-
-fn at_line<K: Sink>(sink: &mut K, line: u32, what: &[u8]) -> Result<(), Failed>
-    ensures bytes { Writes (K.held sink.old) (K.held sink.new) result (line_fault line what.now) }
-    ensures cause { HasCause (K.faults sink.old) (K.faults sink.new) result }
-{
-    numbered(sink, b"pgnotify: line ", u64::from(line), what)
-}
-
-fn at_byte<K: Sink>(sink: &mut K, at: u32, what: &[u8]) -> Result<(), Failed>
-    ensures bytes { Writes (K.held sink.old) (K.held sink.new) result (byte_fault at what.now) }
-    ensures cause { HasCause (K.faults sink.old) (K.faults sink.new) result }
-{
-    numbered(sink, b"pgnotify: byte ", u64::from(at), what)
-}
-
-fn wire_fault_line<K: Sink>(sink: &mut K, fault: WireFault) -> Result<(), Failed>
-    ensures bytes { Writes (K.held sink.old) (K.held sink.new) result (wire_fault_text fault) }
-    ensures cause { HasCause (K.faults sink.old) (K.faults sink.new) result }
-{
-    numbered(sink, b"pgnotify: byte ", offset(fault), b": bad message\n")
 }
 
 // The place of the message that is refused, in bytes.
@@ -93,18 +87,6 @@ fn offset(fault: WireFault) -> u64
         WireFault::BadText { at } => at,
         WireFault::TooMany { at } => at,
     }
-}
-
-fn frame_fault_line<K: Sink>(sink: &mut K, fault: FrameFault) -> Result<(), Failed>
-    ensures bytes { Writes (K.held sink.old) (K.held sink.new) result (frame_fault_text fault) }
-    ensures cause { HasCause (K.faults sink.old) (K.faults sink.new) result }
-{
-    numbered(
-        sink,
-        b"pgnotify: byte ",
-        frame_offset(fault),
-        b": bad frame\n",
-    )
 }
 
 // The place of the frame that is refused, in bytes.

@@ -1,15 +1,12 @@
-ghost use Rattle.std.specs.Prelude.{◌≡◌, ◌≢◌, ◌⊎◌, ◌<◌, ℕ, map, string_bytes, Err, IfOk, IfSome, IsOkAnd};
+ghost use Rattle.std.specs.Prelude.{◌≡◌, ◌≢◌, ◌⊎◌, ◌<◌, map, string_bytes, Ok, Err, IfOk, IfSome, IsOkAnd};
 ghost use Rattle.std.specs.Io.KnownBytes.{Appends};
 ghost use Rattle.pgn_base.specs.Outside.{AppendsPrefix, Rose};
-ghost use Rattle.pgn_language.specs.declared.scenario.ScenarioFault.{ScenarioFault};
 ghost use Rattle.pgn_options.specs.Words.{AreNoCommand};
-ghost use Rattle.pgn_queries.specs.declared.wire_fault.WireFault.{WireFault};
 ghost use Rattle.pgn_wire.specs.Serving.{WroteWhole};
 ghost use Rattle.pgn_run.specs.Checking.{HasNoOutput, IsTooLarge};
-ghost use Rattle.pgn_run.specs.Conversation.{BreaksOff, StopsAmong, StopsBetween};
-ghost use Rattle.pgn_frames.specs.declared.frame_fault.FrameFault.{FrameFault};
+ghost use Rattle.pgn_run.specs.Conversation.{StopsAmong, StopsBetween};
 ghost use Rattle.pgn_run.specs.Run.{AskToCheck, AskToRunLive, AskToServe, AskToWire, Performs, PerformsInPart, SoFarRuns, asked_settings, settings_with};
-ghost use Rattle.pgn_cli.specs.Program.{Ends, IsFaulty, IsRefused, NamesFault, NamesWireFault, SaysBadFrame, SaysIllegal, ServedFirst, ServedInPart, ServesUpTo};
+ghost use Rattle.pgn_cli.specs.Program.{Comes, Ends, NamesFault, NamesWireFault, SaysBadFrame, SaysIllegal, ServedFirst, ServedInPart, texts_of};
 
 use crate::arguments::NoWords;
 use crate::fault_line::fault_line;
@@ -110,7 +107,8 @@ pub fn program<S: Source, K: Sink + Send, E: Sink, R: Threads + Wait + Clock + S
     ensures other_words { IfOk words (λ words.
         AreNoCommand (map string_bytes words.items) → result ≢ 6 → result ≡ 2) }
 {
-    let status = status_of(means, words, source, sink);
+    let status = status_of(means, &words, source, sink);
+    drop(words);
     let _ = fault_line(errors, &status);
     status.code()
 }
@@ -118,97 +116,16 @@ pub fn program<S: Source, K: Sink + Send, E: Sink, R: Threads + Wait + Clock + S
 // How a run of these words ends.
 fn status_of<S: Source, K: Sink + Send, R: Threads + Wait + Clock + Sync>(
     means: &Means<'_, R>,
-    words: Result<Vec<String>, NoWords>,
+    words: &Result<Vec<String>, NoWords>,
     source: &mut S,
     sink: &mut K,
 ) -> Status
-    ensures done { result ≡ Status.Done
-        → IsOkAnd words (λ words.
-        Performs (map string_bytes words.items) (S.left source.old)
-        (Appends (K.held sink.old) (K.held sink.new))) }
-    ensures bad_scenario { (fault : ScenarioFault) → result ≡ Status.BadScenario fault
-        → IfSome (S.left source.old) (λ input. IsFaulty input fault) }
-    ensures bad_wire { (fault : WireFault) → result ≡ Status.BadWire fault
-        → IsOkAnd words (λ words. AskToWire (map string_bytes words.items))
-        × IfSome (S.left source.old) (λ bytes.
-        BreaksOff bytes fault (Appends (K.held sink.old) (K.held sink.new))) }
-    ensures bad_frame { (fault : FrameFault) → result ≡ Status.BadFrame fault
-        → IsOkAnd words (λ words.
-        ServesUpTo (map string_bytes words.items) fault (S.left source.old) (K.held sink.old)
-        (K.held sink.new)) }
-    ensures illegal { (line : ℕ) → result ≡ Status.Illegal line
-        → IsOkAnd words (λ words.
-        (ask : AskToCheck (map string_bytes words.items))
-        × IfSome (S.left source.old)
-        (SaysIllegal (asked_settings ask) (K.held sink.old) (K.held sink.new))) }
-    ensures no_output { result ≡ Status.NoOutput
-        → IsOkAnd words (λ words. AskToCheck (map string_bytes words.items))
-        × IfSome (S.left source.old) HasNoOutput }
-    ensures check_too_large { result ≡ Status.CheckTooLarge
-        → IsOkAnd words (λ words. AskToCheck (map string_bytes words.items))
-        × IfSome (S.left source.old) IsTooLarge }
-    ensures read_fault { result ≡ Status.ReadFault
-        → Rose (S.faults source.old) (S.faults source.new) }
-    ensures read_fault_where_due { IfOk words (λ words. ¬ AskToServe (map string_bytes words.items))
-        → S.faults source.old < S.faults source.new → result ≡ Status.ReadFault }
-    ensures read_fault_where_served { IfOk words (λ words.
-        AskToServe (map string_bytes words.items) → S.faults source.old < S.faults source.new
-        → (result ≡ Status.ReadFault) ⊎ (result ≡ Status.WriteFault)
-        ⊎ (result ≡ Status.NoMemory)) }
-    ensures write_fault { result ≡ Status.WriteFault
-        → Rose (K.faults sink.old) (K.faults sink.new) }
-    ensures write_fault_where_due { K.faults sink.old < K.faults sink.new
-        → result ≡ Status.WriteFault }
-    ensures write_fault_writes_a_prefix { result ≡ Status.WriteFault
-        → IsOkAnd words (λ words.
-        PerformsInPart (map string_bytes words.items) (S.left source.old)
-        (AppendsPrefix (K.held sink.old) (K.held sink.new))) }
-    ensures refused_writes_nothing { IsRefused result → K.held sink.new ≡ K.held sink.old }
-    ensures read_fault_writes_nothing { IfOk words (λ words.
-        ¬ AskToWire (map string_bytes words.items))
-        → IfOk words (λ words. ¬ AskToServe (map string_bytes words.items))
-        → result ≡ Status.ReadFault → K.held sink.new ≡ K.held sink.old }
-    ensures read_fault_writes_answers { IfOk words (λ words.
-        AskToWire (map string_bytes words.items) → result ≡ Status.ReadFault
-        → IfSome (S.left source.old) (λ bytes.
-        StopsBetween bytes (Appends (K.held sink.old) (K.held sink.new)))) }
-    ensures read_fault_writes_what_was_told { IfOk words (λ words.
-        result ≡ Status.ReadFault
-        → ServedFirst (map string_bytes words.items) (S.left source.old) (K.held sink.old)
-        (K.held sink.new)) }
-    ensures no_memory_writes_nothing { IfOk words (λ words.
-        ¬ AskToRunLive (map string_bytes words.items))
-        → IfOk words (λ words. ¬ AskToWire (map string_bytes words.items))
-        → IfOk words (λ words. ¬ AskToServe (map string_bytes words.items))
-        → result ≡ Status.NoMemory → K.held sink.new ≡ K.held sink.old }
-    ensures no_memory_writes_first_lines { IfOk words (λ words.
-        (ask : AskToRunLive (map string_bytes words.items)) → result ≡ Status.NoMemory
-        → (K.held sink.new ≡ K.held sink.old)
-        ⊎ IfSome (S.left source.old) (λ input.
-        SoFarRuns (settings_with ask.pages ask.patience ask.format) input
-        (Appends (K.held sink.old) (K.held sink.new)))) }
-    ensures no_memory_writes_whole_answers { IfOk words (λ words.
-        AskToWire (map string_bytes words.items) → result ≡ Status.NoMemory
-        → IfSome (S.left source.old) (λ bytes.
-        StopsAmong bytes (WroteWhole (K.held sink.old) (K.held sink.new)))) }
-    ensures no_memory_writes_whole_turns { IfOk words (λ words.
-        result ≡ Status.NoMemory
-        → ServedInPart (map string_bytes words.items) (S.left source.old) (K.held sink.old)
-        (K.held sink.new)) }
-    ensures no_memory { words ≡ Err NoWords.Memory → result ≡ Status.NoMemory }
-    ensures not_text { words ≡ Err NoWords.NotText → result ≡ Status.BadWords }
-    ensures right_words { IfOk words (λ words.
-        result ≡ Status.BadWords → AreNoCommand (map string_bytes words.items)) }
-    ensures other_words { IfOk words (λ words.
-        AreNoCommand (map string_bytes words.items) → result ≢ Status.NoMemory
-        → result ≡ Status.BadWords) }
+    ensures { Comes (texts_of words.now (λ words. map string_bytes words.items))
+        (S.left source.old) (S.faults source.old) (S.faults source.new) (K.held sink.old)
+        (K.held sink.new) (K.faults sink.old) (K.faults sink.new) result }
 {
     match words {
-        Ok(words) => {
-            let status = run_words(means, words.as_slice(), source, sink);
-            drop(words);
-            status
-        }
+        Ok(words) => run_words(means, words.as_slice(), source, sink),
         Err(NoWords::Memory) => Status::NoMemory,
         Err(NoWords::NotText) => Status::BadWords,
     }
@@ -221,80 +138,23 @@ fn run_words<S: Source, K: Sink + Send, R: Threads + Wait + Clock + Sync>(
     source: &mut S,
     sink: &mut K,
 ) -> Status
-    ensures done { result ≡ Status.Done
-        → Performs (map string_bytes words.now) (S.left source.old)
-        (Appends (K.held sink.old) (K.held sink.new)) }
-    ensures bad_scenario { (fault : ScenarioFault) → result ≡ Status.BadScenario fault
-        → IfSome (S.left source.old) (λ input. IsFaulty input fault) }
-    ensures bad_wire { (fault : WireFault) → result ≡ Status.BadWire fault
-        → AskToWire (map string_bytes words.now)
-        × IfSome (S.left source.old) (λ bytes.
-        BreaksOff bytes fault (Appends (K.held sink.old) (K.held sink.new))) }
-    ensures bad_frame { (fault : FrameFault) → result ≡ Status.BadFrame fault
-        → ServesUpTo (map string_bytes words.now) fault (S.left source.old) (K.held sink.old)
-        (K.held sink.new) }
-    ensures illegal { (line : ℕ) → result ≡ Status.Illegal line
-        → (ask : AskToCheck (map string_bytes words.now))
-        × IfSome (S.left source.old)
-        (SaysIllegal (asked_settings ask) (K.held sink.old) (K.held sink.new)) }
-    ensures no_output { result ≡ Status.NoOutput
-        → AskToCheck (map string_bytes words.now) × IfSome (S.left source.old) HasNoOutput }
-    ensures check_too_large { result ≡ Status.CheckTooLarge
-        → AskToCheck (map string_bytes words.now) × IfSome (S.left source.old) IsTooLarge }
-    ensures read_fault { result ≡ Status.ReadFault
-        → Rose (S.faults source.old) (S.faults source.new) }
-    ensures read_fault_where_due { ¬ AskToServe (map string_bytes words.now)
-        → S.faults source.old < S.faults source.new → result ≡ Status.ReadFault }
-    ensures read_fault_where_served { AskToServe (map string_bytes words.now)
-        → S.faults source.old < S.faults source.new
-        → (result ≡ Status.ReadFault) ⊎ (result ≡ Status.WriteFault) ⊎ (result ≡ Status.NoMemory) }
-    ensures write_fault { result ≡ Status.WriteFault
-        → Rose (K.faults sink.old) (K.faults sink.new) }
-    ensures write_fault_where_due { K.faults sink.old < K.faults sink.new
-        → result ≡ Status.WriteFault }
-    ensures write_fault_writes_a_prefix { result ≡ Status.WriteFault
-        → PerformsInPart (map string_bytes words.now) (S.left source.old)
-        (AppendsPrefix (K.held sink.old) (K.held sink.new)) }
-    ensures refused_writes_nothing { IsRefused result → K.held sink.new ≡ K.held sink.old }
-    ensures read_fault_writes_nothing { ¬ AskToWire (map string_bytes words.now)
-        → ¬ AskToServe (map string_bytes words.now) → result ≡ Status.ReadFault
-        → K.held sink.new ≡ K.held sink.old }
-    ensures read_fault_writes_answers { AskToWire (map string_bytes words.now)
-        → result ≡ Status.ReadFault
-        → IfSome (S.left source.old) (λ bytes.
-        StopsBetween bytes (Appends (K.held sink.old) (K.held sink.new))) }
-    ensures read_fault_writes_what_was_told { result ≡ Status.ReadFault
-        → ServedFirst (map string_bytes words.now) (S.left source.old) (K.held sink.old)
-        (K.held sink.new) }
-    ensures no_memory_writes_nothing { ¬ AskToRunLive (map string_bytes words.now)
-        → ¬ AskToWire (map string_bytes words.now) → ¬ AskToServe (map string_bytes words.now)
-        → result ≡ Status.NoMemory → K.held sink.new ≡ K.held sink.old }
-    ensures no_memory_writes_first_lines { (ask : AskToRunLive (map string_bytes words.now))
-        → result ≡ Status.NoMemory
-        → (K.held sink.new ≡ K.held sink.old)
-        ⊎ IfSome (S.left source.old) (λ input.
-        SoFarRuns (settings_with ask.pages ask.patience ask.format) input
-        (Appends (K.held sink.old) (K.held sink.new))) }
-    ensures no_memory_writes_whole_answers { AskToWire (map string_bytes words.now)
-        → result ≡ Status.NoMemory
-        → IfSome (S.left source.old) (λ bytes.
-        StopsAmong bytes (WroteWhole (K.held sink.old) (K.held sink.new))) }
-    ensures no_memory_writes_whole_turns { result ≡ Status.NoMemory
-        → ServedInPart (map string_bytes words.now) (S.left source.old) (K.held sink.old)
-        (K.held sink.new) }
-    ensures right_words { result ≡ Status.BadWords → AreNoCommand (map string_bytes words.now) }
-    ensures other_words { AreNoCommand (map string_bytes words.now) → result ≢ Status.NoMemory
-        → result ≡ Status.BadWords }
+    ensures { Comes (Ok (map string_bytes words.now)) (S.left source.old) (S.faults source.old)
+        (S.faults source.new) (K.held sink.old) (K.held sink.new) (K.faults sink.old)
+        (K.faults sink.new) result }
 {
     match borrowed(means.alloc, words) {
-        Ok(words) => run_notify(
-            means.rt,
-            means.alloc,
-            means.hashes,
-            words.as_slice(),
-            source,
-            sink,
-        ),
+        Ok(words) => {
+            let status = run_notify(
+                means.rt,
+                means.alloc,
+                means.hashes,
+                words.as_slice(),
+                source,
+                sink,
+            );
+            drop(words);
+            status
+        }
         Err(AllocError) => Status::NoMemory,
     }
 }
