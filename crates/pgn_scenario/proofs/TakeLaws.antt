@@ -10,15 +10,19 @@ use Rattle.std.proofs.lemmas.List.Folds.{list_any_at}
 use Rattle.std.proofs.lemmas.List.Elements.{Contains-append_left, Contains-append_right}
 use Rattle.std.proofs.lemmas.Str.{IsUtf8-from_is_utf8, is_utf8-from_IsUtf8}
 use Rattle.memchr.specs.Find.{IsFirstByte, is_byte}
-use Rattle.pgn_base.specs.declared.limits.TheConstants.{LINE_BYTES_MAX, NOTE_LINES_MAX}
+use Rattle.pgn_base.specs.declared.limits.TheConstants.{FLAGS_MAX, LINE_BYTES_MAX, NOTE_LINES_MAX, SECTIONS_MAX}
+use Rattle.pgn_base.specs.Names.{has_name}
 use Rattle.pgn_language.specs.declared.scenario.Section.{Section}
 use Rattle.pgn_language.specs.declared.scenario.ScriptLine.{ScriptLine}
 use Rattle.pgn_language.specs.declared.scenario.ScenarioFault.{ScenarioFault}
 use Rattle.pgn_language.specs.declared.scenario.ScenarioFault.TheVariants as fault
-use Rattle.pgn_language.specs.Lines.{Says, says, text_says, trimmed}
+use Rattle.pgn_language.specs.declared.scenario.Act.TheVariants.{Run, Signal, Await, Quit}
+use Rattle.pgn_language.specs.Lines.{Says, SaysNothing, Opens, Runs, Signals, Awaits, Quits, NoMeta, says, text_says, trimmed}
 use Rattle.pgn_language.specs.laws.Inputs.{IsTextOf}
 use Rattle.pgn_language.proofs.LineLaws.{is-trimmed}
-use Rattle.pgn_scenario.specs.Steps.{State, note_of, with_line, added, after_ok, passed, step, outcome, IsCounted}
+use Rattle.pgn_language.specs.Inputs.{with_name, flag_number}
+use Rattle.pgn_scenario.specs.Flags.{signalling, awaiting}
+use Rattle.pgn_scenario.specs.Steps.{State, note_of, with_line, acted, added, after_ok, awaits, opened, passed, quits, running, signals, step, outcome, unless_many, IsCounted}
 use Rattle.pgn_scenario.proofs.ByteLaws.{none_any}
 
 -- a zero byte that is found, or is not
@@ -55,6 +59,37 @@ step-nul s line l u h =
     let short : nat_lt LINE_BYTES_MAX (length line) ≡ false = le-ltb LINE_BYTES_MAX (length line) l in
     let good : is_utf8 line ≡ true = is_utf8-from_IsUtf8 line u in
     sym (rw (short, good, h, step) refl)
+
+-- A line makes no difference to where it begins.
+
+unless-at : (s next u : State) (many : Bool) → next.at ≡ s.at → Ok u ≡ unless_many s many next → u.at ≡ s.at
+unless-at s next u true same e = absurd (cc)
+unless-at s next u false same e = let is : u ≡ next = cc in ap (λ (x : State). x.at) is ∙ same
+
+opening-at : (s next u : State) (known many : Bool) → next.at ≡ s.at → Ok u ≡ cond known (Err (fault.SameName s.line)) (unless_many s many next) → u.at ≡ s.at
+opening-at s next u true many same e = absurd (cc)
+opening-at s next u false many same e = unless-at s next u many same e
+
+within-at : (s u : State) (quit begun : Bool) (next : Result State ScenarioFault) → (Ok u ≡ next → u.at ≡ s.at)
+    → Ok u ≡ cond quit (Err (fault.BadMeta s.line)) (cond begun next (Err (fault.NoSession s.line))) → u.at ≡ s.at
+within-at s u true begun next h e = absurd (cc)
+within-at s u false true next h e = h e
+within-at s u false false next h e = absurd (cc)
+
+-- what it makes begins there
+pub added-at : (s u : State) (text : List ℕ) (said : Says) → Ok u ≡ added s text said → u.at ≡ s.at
+added-at s u text SaysNothing e = let is : u ≡ s = cc in ap (λ (x : State). x.at) is
+added-at s u text (Opens name db) e = opening-at s (opened s name db) u (has_name s.names name) (nat_lt SECTIONS_MAX (length s.names + 1)) refl e
+added-at s u text (Runs command) e =
+    within-at s u s.quit (is_some s.part) (running s text command) (unless-at s (acted s text (Run command)) u (nat_lt NOTE_LINES_MAX (s.notes + note_of (Run command))) refl) e
+added-at s u text (Signals flag) e =
+    within-at s u s.quit (is_some s.part) (signals s text flag)
+    (unless-at s (acted (record s { flags = signalling s.flags flag }) text (Signal (flag_number s.flags.names flag))) u (nat_lt FLAGS_MAX (length (with_name s.flags.names flag))) refl) e
+added-at s u text (Awaits flag) e =
+    within-at s u s.quit (is_some s.part) (awaits s text flag)
+    (unless-at s (acted (record s { flags = awaiting s.flags flag s.line }) text (Await (flag_number s.flags.names flag))) u (nat_lt FLAGS_MAX (length (with_name s.flags.names flag))) refl) e
+added-at s u text Quits e = within-at s u s.quit (is_some s.part) (quits s text) (λ o. let is : u ≡ record (acted s text Quit) { quit = true } = cc in ap (λ (x : State). x.at) is) e
+added-at s u text NoMeta e = absurd (cc)
 
 after_outcome : (found : Option ScenarioFault) (f : State → State) (u : State) → outcome found (f u) ≡ after_ok f (outcome found u)
 after_outcome None f u = refl

@@ -22,12 +22,11 @@ pub fn gap_bytes(bytes: &[u8]) -> usize
     ensures value { result ≡ prefix_len is_gap bytes.now }
     ensures within { result ≤ length bytes.now }
 {
-    for (at, byte) in bytes.iter().enumerate() {
-        if !is_gap(*byte) {
-            return at;
-        }
+    let mut at = 0;
+    while at < bytes.len() && is_gap(bytes[at]) {
+        at += 1;
     }
-    bytes.len()
+    at
 }
 
 /// How many bytes at the front are neither spaces nor tabs.
@@ -35,12 +34,11 @@ pub fn part_bytes(bytes: &[u8]) -> usize
     ensures value { result ≡ prefix_len (λ byte. not (is_gap byte)) bytes.now }
     ensures within { result ≤ length bytes.now }
 {
-    for (at, byte) in bytes.iter().enumerate() {
-        if is_gap(*byte) {
-            return at;
-        }
+    let mut at = 0;
+    while at < bytes.len() && !is_gap(bytes[at]) {
+        at += 1;
     }
-    bytes.len()
+    at
 }
 
 // A space or a tab.

@@ -17,7 +17,12 @@ pub fn is_label(part: &str) -> bool
 fn are_label_bytes(part: &[u8]) -> bool
     ensures { result ≡ list_all is_label_byte part.now }
 {
-    part.iter().all(|byte| is_label_byte(*byte))
+    for byte in part {
+        if !is_label_byte(*byte) {
+            return false;
+        }
+    }
+    true
 }
 
 fn is_label_byte(byte: u8) -> bool
@@ -51,7 +56,12 @@ pub fn database_of(part: &str) -> Option<DbOid>
 fn are_digits(part: &[u8]) -> bool
     ensures { result ≡ list_all is_ascii_digit part.now }
 {
-    part.iter().all(|byte| byte.is_ascii_digit())
+    for byte in part {
+        if !byte.is_ascii_digit() {
+            return false;
+        }
+    }
+    true
 }
 
 // The number of digits, where it has 32 bits.

@@ -1,6 +1,6 @@
 ghost use Rattle.std.specs.Prelude.{◌≡◌, [], ◌∷◌, MatchOption};
 ghost use Rattle.pgn_language.specs.Lines.{parts_of};
-ghost use Rattle.pgn_scenario.specs.Parting.{IsParted, past_gap};
+ghost use Rattle.pgn_scenario.specs.Parting.{IsParted};
 
 use crate::bytes::{gap_bytes, part_bytes};
 
@@ -37,18 +37,11 @@ fn next_part(text: &str) -> Option<(&str, &str)>
     ensures { MatchOption result (parts_of text.now ≡ [])
         (λ parts. parts_of text.now ≡ parts.0.now ∷ parts_of parts.1.now) }
 {
-    let text = past_gap(text);
-    let end = part_bytes(text.as_bytes());
+    let start = gap_bytes(text.as_bytes());
+    let rest = &text[start..];
+    let end = part_bytes(rest.as_bytes());
     if end == 0 {
         return None;
     }
-    Some((&text[..end], &text[end..]))
-}
-
-// A text without the spaces and tabs at its front.
-fn past_gap(text: &str) -> &str
-    ensures { result.now ≡ past_gap text.now }
-{
-    let start = gap_bytes(text.as_bytes());
-    &text[start..]
+    Some((&rest[..end], &rest[end..]))
 }

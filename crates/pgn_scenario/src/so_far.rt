@@ -96,9 +96,13 @@ impl SoFar {
         }
         let text = trimmed(text);
         let said = said_of(alloc, text)?;
-        let found = self.add(alloc, text, said)?;
-        self.pass(line.len());
-        Ok(found)
+        match self.add(alloc, text, said)? {
+            None => {
+                self.pass(line.len());
+                Ok(None)
+            }
+            Some(fault) => Ok(Some(fault)),
+        }
     }
 
     // The next line begins so many bytes and an LF later.
@@ -117,8 +121,7 @@ impl SoFar {
         text: &str,
         said: Said,
     ) -> Result<Option<ScenarioFault>, AllocError>
-        ensures same_at { self.new.at ≡ self.old.at }
-        ensures added { IfOk result
+        ensures { IfOk result
             (λ found. outcome found self.new ≡ added self.old text.now (told said)) }
     {
         let line = self.line;
@@ -137,8 +140,7 @@ impl SoFar {
         name: Name,
         db: DbOid,
     ) -> Result<Option<ScenarioFault>, AllocError>
-        ensures same_at { self.new.at ≡ self.old.at }
-        ensures added { IfOk result (λ found. outcome found self.new ≡ opening self.old name db) }
+        ensures { IfOk result (λ found. outcome found self.new ≡ opening self.old name db) }
     {
         let line = self.line;
         if self.names.contains(&name) {
@@ -158,8 +160,7 @@ impl SoFar {
     fn begin(&mut self, alloc: Global, name: Name, db: DbOid) -> Result<(), AllocError>
         requires new { has_name self.old.names name ≡ false }
         requires few { length self.old.names + 1 ≤ SECTIONS_MAX }
-        ensures same_at { self.new.at ≡ self.old.at }
-        ensures ok { OnOk result (self.new ≡ opened self.old name db) }
+        ensures { OnOk result (self.new ≡ opened self.old name db) }
     {
         let no = SessionNo::new(self.names.len() as u32 + 1);
         let copy = name.copy(alloc)?;
@@ -184,8 +185,7 @@ impl SoFar {
         text: &str,
         deed: Deed,
     ) -> Result<Option<ScenarioFault>, AllocError>
-        ensures same_at { self.new.at ≡ self.old.at }
-        ensures added { IfOk result
+        ensures { IfOk result
             (λ found. outcome found self.new ≡ added self.old text.now (told_deed deed)) }
     {
         let line = self.line;
@@ -212,8 +212,7 @@ impl SoFar {
         text: &str,
         command: Command,
     ) -> Result<Option<ScenarioFault>, AllocError>
-        ensures same_at { self.new.at ≡ self.old.at }
-        ensures added { IfOk result
+        ensures { IfOk result
             (λ found. outcome found self.new ≡ running self.old text.now command) }
     {
         let act = Act::Run(command);
@@ -232,8 +231,7 @@ impl SoFar {
         text: &str,
         flag: Name,
     ) -> Result<Option<ScenarioFault>, AllocError>
-        ensures same_at { self.new.at ≡ self.old.at }
-        ensures added { IfOk result
+        ensures { IfOk result
             (λ found. outcome found self.new ≡ signals self.old text.now flag) }
     {
         let number = self.flags.signal(alloc, flag)?;
@@ -251,8 +249,7 @@ impl SoFar {
         text: &str,
         flag: Name,
     ) -> Result<Option<ScenarioFault>, AllocError>
-        ensures same_at { self.new.at ≡ self.old.at }
-        ensures added { IfOk result
+        ensures { IfOk result
             (λ found. outcome found self.new ≡ awaits self.old text.now flag) }
     {
         let number = self.flags.wait(alloc, flag, self.line)?;
@@ -265,8 +262,7 @@ impl SoFar {
 
     // The session quits.
     fn end(&mut self, alloc: Global, text: &str) -> Result<Option<ScenarioFault>, AllocError>
-        ensures same_at { self.new.at ≡ self.old.at }
-        ensures added { IfOk result (λ found. outcome found self.new ≡ quits self.old text.now) }
+        ensures { IfOk result (λ found. outcome found self.new ≡ quits self.old text.now) }
     {
         self.quit = true;
         self.push(alloc, text, Act::Quit)?;
@@ -276,8 +272,7 @@ impl SoFar {
     // Puts a line at the end of the section's script.
     fn push(&mut self, alloc: Global, text: &str, act: Act) -> Result<(), AllocError>
         requires { self.old.notes + note_of act ≤ NOTE_LINES_MAX }
-        ensures same_at { self.new.at ≡ self.old.at }
-        ensures ok { OnOk result (self.new ≡ acted self.old text.now act) }
+        ensures { OnOk result (self.new ≡ acted self.old text.now act) }
     {
         let note = is_note(&act);
         let line = ScriptLine {
@@ -291,8 +286,7 @@ impl SoFar {
 
     // The section that has not ended ends.
     fn end_part(&mut self) -> Result<(), AllocError>
-        ensures same_at { self.new.at ≡ self.old.at }
-        ensures ok { OnOk result (self.new ≡ ended self.old) }
+        ensures { OnOk result (self.new ≡ ended self.old) }
     {
         match self.part.take() {
             Some(part) => self.done.push(part),
