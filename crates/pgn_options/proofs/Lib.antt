@@ -1,3 +1,4 @@
+pub mod CommandLaws
 pub mod NumberLaws
 pub mod TotalLaws
 pub mod FormLaws

@@ -1,5 +1,5 @@
 -- The number that is read of a word.
-use Rattle.std.proofs.Common.{◌≡◌, ◌∙◌, ℕ, ◌≤◌, ◌&&◌, Bool, true, false, cond, List, Option, Some, None, Result, Ok, Err, is_some, refl, ap, subst}
+use Rattle.std.proofs.Common.{◌≡◌, ◌∙◌, ℕ, ◌<◌, ◌≤◌, ◌^◌, ◌&&◌, Bool, true, false, cond, List, Option, Some, None, Result, Ok, Err, is_some, refl, ap, subst, arith}
 use Rattle.std.specs.Prelude.{nat_le}
 use Rattle.std.specs.Str.Parse.{ParsesUnsigned, digits_value, without_leading_plus}
 use Rattle.std.proofs.lemmas.Bool.{leb-true}
@@ -27,17 +27,19 @@ number-is least most word n e =
     go true false c above within is = absurd (cc)
     go false b c above within is = absurd (cc)
 
-reads : (E : Type 0) (G : List ℕ → Result ℕ E → Type 0) (least most : ℕ) (word : List ℕ) (n : ℕ) (r : Option ℕ) → most ≤ 18446744073709551615
-    → number_in least most word ≡ Some n → ReadsOne G word r → ((u : List ℕ) (x : Result ℕ E) → G u x → ParsesUnsigned 64 10 u x) → r ≡ Some n
-reads E G least most word n (Some v) fits is read only = ap Some ((only word (Ok v) read).1 ∙ (number-is least most word n is).0)
-reads E G least most word n None fits is read only =
-    let passes = accepts-Accepts false (Unsigned least most) word (accepted least most word fits ∙ ap is_some is) in
-    absurd (only word (Err read.0) read.1 (passes.0, passes.1))
+reads : (k top : ℕ) → top < 2 ^ k → top ≤ 18446744073709551615 → (E : Type 0) (G : List ℕ → Result ℕ E → Type 0) (least most : ℕ) (word : List ℕ) (n : ℕ) (r : Option ℕ) → most ≤ top
+    → number_in least most word ≡ Some n → ReadsOne G word r → ((u : List ℕ) (x : Result ℕ E) → G u x → ParsesUnsigned k 10 u x) → r ≡ Some n
+reads k top wide short E G least most word n (Some v) fits is read only = ap Some ((only word (Ok v) read).1 ∙ (number-is least most word n is).0)
+reads k top wide short E G least most word n None fits is read only =
+    let passes = accepts-Accepts false (Unsigned least most) word (accepted least most word (omega arith) ∙ ap is_some is) in
+    let few : digits_value 10 (without_leading_plus word) ≤ most = passes.3 in
+    absurd (only word (Err read.0) read.1 (passes.0, omega arith))
 
--- an option's number that was read from what was found is the one that stands there
-pub found-reads : (E : Type 0) (G : List ℕ → Result ℕ E → Type 0) (found : Found) (id : List ℕ) (r : Option ℕ)
+-- an option's number that was read at a type of k bits from what was found is the one that stands there
+pub found-reads : (k top : ℕ) → top < 2 ^ k → top ≤ 18446744073709551615 → (E : Type 0) (G : List ℕ → Result ℕ E → Type 0) (found : Found) (id : List ℕ) (r : Option ℕ)
     → (one_text found id ≡ None → r ≡ None) → ((t : List ℕ) → one_text found id ≡ Some t → ReadsOne G t r)
-    → ((u : List ℕ) (x : Result ℕ E) → G u x → ParsesUnsigned 64 10 u x)
-    → (least most : ℕ) (number : Option ℕ) → most ≤ 18446744073709551615 → IsFoundAs least most id (rows_of found) number → r ≡ number
-found-reads E G found id r when_none when_some only least most None fits h = when_none (one_text-rows found id ∙ h)
-found-reads E G found id r when_none when_some only least most (Some n) fits h = reads E G least most h.0 n r fits h.2 (when_some h.0 (one_text-rows found id ∙ h.1)) only
+    → ((u : List ℕ) (x : Result ℕ E) → G u x → ParsesUnsigned k 10 u x)
+    → (least most : ℕ) (number : Option ℕ) → most ≤ top → IsFoundAs least most id (rows_of found) number → r ≡ number
+found-reads k top wide short E G found id r when_none when_some only least most None fits h = when_none (one_text-rows found id ∙ h)
+found-reads k top wide short E G found id r when_none when_some only least most (Some n) fits h =
+    reads k top wide short E G least most h.0 n r fits h.2 (when_some h.0 (one_text-rows found id ∙ h.1)) only

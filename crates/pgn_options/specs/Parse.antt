@@ -1,10 +1,12 @@
 -- The command that `clap` parses words with, and what is found of them.
-use Rattle.std.specs.Prelude.{◌≡◌, ℕ, Bool, true, cond, List, [], Option, None, Some, MatchOption, codes}
+use Rattle.std.specs.Prelude.{◌≡◌, ℕ, Bool, true, cond, false, List, [], Option, None, Some, MatchOption, codes}
 use Rattle.clap.specs.declared.builder.action.ArgAction.TheVariants.{Set, SetTrue}
+use Rattle.clap.specs.declared.builder.command.Command.{Command}
+use Rattle.clap.specs.declared.builder.command.Command.TheViews.{out-Command}
 use Rattle.clap.specs.declared.builder.value_parser.ValueParser.{ValueParser}
 use Rattle.clap.specs.declared.builder.value_parser.ValueParser.TheVariants as parser
 use Rattle.clap.specs.Walk.{Row, Rule, Text, one_of}
-use Rattle.clap.specs.Simple.{App, Shape, new_app, new_rule, with_rule, with_subcommand}
+use Rattle.clap.specs.Simple.{App, Shape, app_of, new_app, new_rule, with_rule, with_subcommand}
 use Rattle.pgn_base.specs.declared.limits.TheConstants.{PAGES_MIN, PAGES_MAX}
 use Rattle.pgn_options.specs.declared.asked.Asked.{Asked}
 use Rattle.pgn_options.specs.declared.asked.Asked.TheVariants.{Drill, Wire}
@@ -66,6 +68,11 @@ plain_app = with_subcommand (with_subcommand (record { top = program_shape; subs
 -- the program with its commands
 abbrev pub program_app : App
 program_app = with_subcommand (with_subcommand (with_subcommand plain_app (options_app (word_of OfRun)).top) (options_app (word_of OfCheck)).top) (options_app (word_of OfServe)).top
+
+-- a parse reads this of a command, none of whose arguments is global
+pub record IsApp (app : App) (command : Command) : Type 0 where
+  pub is : app_of command ≡ app
+  pub local : (out-Command command).has_globals ≡ false
 
 -- a number was found for an argument, or none was
 abbrev pub IsFoundAs : ℕ → ℕ → Text → List Row → Option ℕ → Type 0

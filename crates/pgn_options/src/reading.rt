@@ -156,16 +156,16 @@ fn drill_of(found: &ArgMatches<'_>) -> Result<Asked, WordsFault>
     let Some(seed) = number_of(found, "seed") else {
         return Err(WordsFault::BadWords);
     };
-    let Some(sessions) = number_of(found, "sessions") else {
+    let Some(sessions) = small_of(found, "sessions") else {
         return Err(WordsFault::BadWords);
     };
-    let Some(notes) = number_of(found, "notes") else {
+    let Some(notes) = small_of(found, "notes") else {
         return Err(WordsFault::BadWords);
     };
     Ok(Asked::Drill {
         seed,
-        sessions: small(sessions),
-        notes: small(notes),
+        sessions,
+        notes,
     })
 }
 
@@ -182,15 +182,5 @@ fn small_of(found: &ArgMatches<'_>, id: &str) -> Option<u32>
     ensures { (least most : ℕ) (number : Option ℕ) → most ≤ 4294967295
         → IsFoundAs least most id.now (rows_of (found_of found.now)) number → result ≡ number }
 {
-    match number_of(found, id) {
-        Some(number) => Some(small(number)),
-        None => None,
-    }
-}
-
-// A number of 32 bits, as it is.
-fn small(number: u64) -> u32
-    ensures { number ≤ 4294967295 → result ≡ number }
-{
-    u32::try_from(number).unwrap_or(u32::MAX)
+    found.get_one::<u32>(id)
 }
