@@ -1,8 +1,6 @@
 ghost use Rattle.std.specs.Prelude.{◌≡◌, ◌<◌, ◌≤◌, [], Err, Some, IfOk, IfSome, OnErr, OnOk};
 ghost use Rattle.pgn_base.specs.Outside.{Rose};
 ghost use Rattle.pgn_base.specs.declared.limits.TheConstants.{LINE_BYTES_MAX};
-ghost use Rattle.pgn_base.specs.declared.command.Command.TheVariants.{Bad};
-ghost use Rattle.pgn_language.specs.declared.scenario.Act.TheVariants.{Run};
 ghost use Rattle.pgn_language.specs.Inputs.{IsOneLine, is_note_act};
 ghost use Rattle.pgn_queries.specs.declared.wire_fault.WireFault.{WireFault};
 ghost use Rattle.pgn_queries.specs.Client.{IsQueryText, OfKnown};
@@ -137,10 +135,15 @@ fn line_of(alloc: Global, line: u32, text: &[u8]) -> Result<ScriptLine, AllocErr
     requires { IsQueryText text.now }
     ensures { IfOk result (IsLineOf line text.now) }
 {
-    match memchr(b'\n', text) {
-        Some(at) => several_lines(alloc, line, at as u32),
-        None => one_line(alloc, line, text),
-    }
+    let Some(at) = memchr(b'\n', text) else {
+        return one_line(alloc, line, text);
+    };
+    let none = LineText::new(alloc, "")?;
+    Ok(ScriptLine {
+        line,
+        text: none,
+        act: Act::Run(Command::Bad { at: at as u32 }),
+    })
 }
 
 // The line of a text without an LF.
@@ -159,17 +162,5 @@ fn one_line(alloc: Global, line: u32, text: &[u8]) -> Result<ScriptLine, AllocEr
         line,
         text: kept,
         act: Act::Run(command),
-    })
-}
-
-// The line of a text whose first LF has this place.
-fn several_lines(alloc: Global, line: u32, at: u32) -> Result<ScriptLine, AllocError>
-    ensures { IfOk result (λ script. script ≡ record { line = line; text = []; act = Run (Bad at) }) }
-{
-    let text = LineText::new(alloc, "")?;
-    Ok(ScriptLine {
-        line,
-        text,
-        act: Act::Run(Command::Bad { at }),
     })
 }
