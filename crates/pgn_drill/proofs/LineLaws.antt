@@ -1,8 +1,8 @@
 -- Lines that are put at the end of a text, one after another.
-use Rattle.std.proofs.Common.{◌≡◌, ◌∙◌, ℕ, ◌+◌, ◌*◌, ◌-◌, List, [], ◌∷◌, ◌++◌, refl, ap, sym, subst, append_assoc, append-nil, add-one, arith}
+use Rattle.std.proofs.Common.{◌≡◌, ◌∙◌, ℕ, ◌+◌, ◌*◌, ◌-◌, ◌%◌, List, [], ◌∷◌, ◌++◌, refl, ap, sym, subst, append_assoc, append-nil, add-one, arith, codes, decimal}
 use Rattle.pgn_model.specs.Text.{joined}
 use Rattle.std.proofs.Math.Nat.{suc-mul}
-use Rattle.pgn_drill.specs.Drill.{AddsLines, next_state, opening_lines, sent_lines, session_lines, state_after, up_to}
+use Rattle.pgn_drill.specs.Drill.{AddsLines, await_line, block_lines, next_state, notify_line, opening_lines, sent_lines, session_lines, state_after, up_to}
 
 joined-append : (xs ys : List (List ℕ)) → joined (xs ++ ys) ≡ joined xs ++ joined ys
 joined-append [] ys = refl
@@ -13,6 +13,46 @@ pub AddsLines-then : {a b c : List ℕ} {xs ys : List (List ℕ)} → AddsLines 
 AddsLines-then {a} {b} {c} {xs} {ys} h k = record {
   bytes = k.bytes ∙ ap (λ (t : List ℕ). t ++ joined ys) h.bytes ∙ append_assoc a (joined xs) (joined ys) ∙ ap (λ (t : List ℕ). a ++ t) (sym (joined-append xs ys));
 }
+
+-- what was put at the end of a text are these lines
+pub AddsLines-from : {a b : List ℕ} {lines : List (List ℕ)} (text : List ℕ) → joined lines ≡ text ++ [] → b ≡ a ++ text → AddsLines a b lines
+AddsLines-from {a} {b} {lines} text same is = record { bytes = is ∙ ap (λ (t : List ℕ). a ++ t) (sym (append-nil text) ∙ sym same) }
+
+-- the line that waits for a session
+pub await-adds : (n : ℕ) (a b : List ℕ) → b ≡ a ++ (codes "\\await up" ++ decimal n ++ codes "\n") → AddsLines a b (await_line n)
+await-adds n a b is = AddsLines-from (codes "\\await up" ++ decimal n ++ codes "\n") refl is
+
+-- the line that sends a number
+pub notify-adds : (j r : ℕ) (a b d : List ℕ) → b ≡ a ++ (codes "NOTIFY c" ++ decimal j ++ codes ", '") → d ≡ b ++ ([] ++ decimal r ++ codes "'\n") → AddsLines a d (notify_line j r ∷ [])
+notify-adds j r a b d channel payload =
+    let front : List ℕ = codes "NOTIFY c" ++ decimal j ++ codes ", '" in
+    let back : List ℕ = decimal r ++ codes "'\n" in
+    let same : joined (notify_line j r ∷ []) ≡ (front ++ back) ++ [] =
+    ap (λ (t : List ℕ). t ++ []) (append_assoc (front ++ decimal r) (codes "'") (10 ∷ []) ∙ append_assoc front (decimal r) (codes "'\n")) in
+    AddsLines-from (front ++ back) same (payload ∙ ap (λ (t : List ℕ). t ++ back) channel ∙ append_assoc a front back)
+
+-- a block
+pub block-adds : (j r : ℕ) (a b d e : List ℕ) → b ≡ a ++ codes "BEGIN\nSAVEPOINT s\nNOTIFY gone\nROLLBACK TO s\n" → AddsLines b d (notify_line j r ∷ []) → e ≡ d ++ codes "COMMIT\n"
+    → AddsLines a e (block_lines j r)
+block-adds j r a b d e begin sends commit =
+    let first : AddsLines a b (codes "BEGIN" ∷ codes "SAVEPOINT s" ∷ codes "NOTIFY gone" ∷ codes "ROLLBACK TO s" ∷ []) =
+    AddsLines-from (codes "BEGIN\nSAVEPOINT s\nNOTIFY gone\nROLLBACK TO s\n") refl begin in
+    let last : AddsLines d e (codes "COMMIT" ∷ []) = AddsLines-from (codes "COMMIT\n") refl commit in
+    AddsLines-then (AddsLines-then first sends) last
+
+-- how a session begins
+pub opening-adds : (sessions i : ℕ) (a b d e f g : List ℕ) → b ≡ a ++ (codes "\\session d" ++ decimal i ++ codes " 1\n") → d ≡ b ++ (codes "LISTEN c" ++ decimal (i % 4) ++ codes "\n")
+    → e ≡ d ++ (codes "BEGIN\n\\signal up" ++ decimal i ++ codes "\n") → AddsLines e f (up_to await_line sessions) → g ≡ f ++ codes "COMMIT\n" → AddsLines a g (opening_lines sessions i)
+opening-adds sessions i a b d e f g session listen signal waits commit =
+    let named : joined ((codes "\\session d" ++ decimal i ++ codes " 1") ∷ []) ≡ (codes "\\session d" ++ decimal i ++ codes " 1\n") ++ [] =
+    ap (λ (t : List ℕ). t ++ []) (append_assoc (codes "\\session d" ++ decimal i) (codes " 1") (10 ∷ [])) in
+    let first : AddsLines a b ((codes "\\session d" ++ decimal i ++ codes " 1") ∷ []) =
+    AddsLines-from (codes "\\session d" ++ decimal i ++ codes " 1\n") named session in
+    let second : AddsLines b d ((codes "LISTEN c" ++ decimal (i % 4)) ∷ []) = AddsLines-from (codes "LISTEN c" ++ decimal (i % 4) ++ codes "\n") refl listen in
+    let third : AddsLines d e (codes "BEGIN" ∷ (codes "\\signal up" ++ decimal i) ∷ []) =
+    AddsLines-from (codes "BEGIN\n\\signal up" ++ decimal i ++ codes "\n") refl signal in
+    let last : AddsLines f g (codes "COMMIT" ∷ []) = AddsLines-from (codes "COMMIT\n") refl commit in
+    AddsLines-then (AddsLines-then (AddsLines-then (AddsLines-then first second) third) waits) last
 
 -- no line
 pub AddsLines-none : (a : List ℕ) → AddsLines a a []

@@ -1,4 +1,4 @@
-ghost use Rattle.std.specs.Prelude.{◌≡◌, ◌≤◌, ◌+◌, not, count_by, sum_by, MatchOption};
+ghost use Rattle.std.specs.Prelude.{◌≡◌, ◌≤◌, ◌+◌, count_by, sum_by, MatchOption};
 ghost use Rattle.pgn_journal.specs.Journal.{is_committed};
 ghost use Rattle.pgn_model.specs.Text.{received_by, received_in};
 
@@ -51,19 +51,6 @@ pub(crate) fn committed(journal: &[Tx]) -> u64
     let mut count = 0;
     for tx in journal {
         if tx.fate == Fate::Committed {
-            count += 1;
-        }
-    }
-    count
-}
-
-/// How many transactions were aborted.
-pub(crate) fn aborted(journal: &[Tx]) -> u64
-    ensures { result ≡ count_by (λ tx. not (is_committed tx.fate)) journal.now }
-{
-    let mut count = 0;
-    for tx in journal {
-        if tx.fate == Fate::Aborted {
             count += 1;
         }
     }

@@ -1,11 +1,10 @@
 #![tactic(auto, using(pgn_base::proofs::OutsideLaws::writings))]
 
-ghost use Rattle.std.specs.Prelude.{◌<◌, ◌++◌, codes, count_by, decimal, length, not};
+ghost use Rattle.std.specs.Prelude.{◌<◌, ◌++◌, decimal, flat_map};
 ghost use Rattle.pgn_base.specs.Outside.{HasCause, Writes};
-ghost use Rattle.pgn_journal.specs.Journal.{is_committed};
 ghost use Rattle.pgn_model.specs.Text.{brief, received_in};
 
-use crate::counts::{aborted, committed, received};
+use crate::counts::{committed, received};
 use itoa::Buffer;
 use pgn_base::{Failed, Sink, write_all};
 use pgn_journal::Tx;
@@ -24,86 +23,33 @@ pub fn summary<K: Sink>(
         (brief seed notes journal.now traces.now) }
     ensures cause { HasCause (K.faults sink.old) (K.faults sink.new) result }
 {
-    match head(sink, seed, traces.len() as u64, notes as u64) {
-        Ok(()) => counts(sink, journal, received(traces).unwrap_or(0)),
-        Err(failed) => Err(failed),
-    }
-}
-
-// The first line.
-fn head<K: Sink>(sink: &mut K, seed: u64, sessions: u64, notes: u64) -> Result<(), Failed>
-    ensures bytes { Writes (K.held sink.old) (K.held sink.new) result
-        (((codes "drill seed " ++ decimal seed) ++ (codes " sessions " ++ decimal sessions)) ++
-        (codes " notes " ++ decimal notes ++ codes "\n")) }
-    ensures cause { HasCause (K.faults sink.old) (K.faults sink.new) result }
-{
-    match front(sink, seed, sessions) {
-        Ok(()) => line(sink, b" notes ", notes),
-        Err(failed) => Err(failed),
-    }
-}
-
-fn front<K: Sink>(sink: &mut K, seed: u64, sessions: u64) -> Result<(), Failed>
-    ensures bytes { Writes (K.held sink.old) (K.held sink.new) result
-        ((codes "drill seed " ++ decimal seed) ++ (codes " sessions " ++ decimal sessions)) }
-    ensures cause { HasCause (K.faults sink.old) (K.faults sink.new) result }
-{
-    match number(sink, b"drill seed ", seed) {
-        Ok(()) => number(sink, b" sessions ", sessions),
-        Err(failed) => Err(failed),
-    }
-}
-
-// The other four.
-fn counts<K: Sink>(sink: &mut K, journal: &[Tx], received: u64) -> Result<(), Failed>
-    ensures bytes { Writes (K.held sink.old) (K.held sink.new) result
-        (((codes "journal " ++ decimal (length journal.now) ++ codes "\n") ++
-        (codes "committed " ++ decimal (count_by (λ tx. is_committed tx.fate) journal.now) ++
-        codes "\n")) ++
-        ((codes "aborted " ++ decimal (count_by (λ tx. not (is_committed tx.fate)) journal.now)
-        ++ codes "\n") ++ (codes "received " ++ decimal received ++ codes "\n"))) }
-    ensures cause { HasCause (K.faults sink.old) (K.faults sink.new) result }
-{
-    match both(
-        sink,
-        b"journal ",
-        journal.len() as u64,
-        b"committed ",
-        committed(journal),
-    ) {
-        Ok(()) => both(sink, b"aborted ", aborted(journal), b"received ", received),
-        Err(failed) => Err(failed),
-    }
-}
-
-// Two lines with a number each.
-fn both<K: Sink>(
-    sink: &mut K,
-    head: &[u8],
-    first: u64,
-    next: &[u8],
-    second: u64,
-) -> Result<(), Failed>
-    ensures bytes { Writes (K.held sink.old) (K.held sink.new) result
-        ((head.now ++ decimal first ++ codes "\n") ++ (next.now ++ decimal second ++ codes "\n")) }
-    ensures cause { HasCause (K.faults sink.old) (K.faults sink.new) result }
-{
-    match line(sink, head, first) {
-        Ok(()) => line(sink, next, second),
-        Err(failed) => Err(failed),
-    }
-}
-
-// A line that ends with a number.
-fn line<K: Sink>(sink: &mut K, head: &[u8], number_at_its_end: u64) -> Result<(), Failed>
-    ensures bytes { Writes (K.held sink.old) (K.held sink.new) result
-        (head.now ++ decimal number_at_its_end ++ codes "\n") }
-    ensures cause { HasCause (K.faults sink.old) (K.faults sink.new) result }
-{
-    match number(sink, head, number_at_its_end) {
+    let all = journal.len() as u64;
+    let done = committed(journal);
+    let pieces: [(&[u8], u64); 7] = [
+        (b"drill seed ", seed),
+        (b" sessions ", traces.len() as u64),
+        (b" notes ", notes as u64),
+        (b"\njournal ", all),
+        (b"\ncommitted ", done),
+        (b"\naborted ", all - done),
+        (b"\nreceived ", received(traces).unwrap_or(0)),
+    ];
+    match numbers(sink, &pieces) {
         Ok(()) => write_all(sink, b"\n"),
         Err(failed) => Err(failed),
     }
+}
+
+// Writes pieces one after another, each of which is a text with a number behind it.
+fn numbers<K: Sink>(sink: &mut K, pieces: &[(&[u8], u64)]) -> Result<(), Failed>
+    ensures bytes { Writes (K.held sink.old) (K.held sink.new) result
+        (flat_map (λ piece. piece.0.now ++ decimal piece.1) pieces.now) }
+    ensures cause { HasCause (K.faults sink.old) (K.faults sink.new) result }
+{
+    for piece in pieces {
+        number(sink, piece.0, piece.1)?;
+    }
+    Ok(())
 }
 
 // A text and a number.

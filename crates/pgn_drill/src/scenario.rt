@@ -1,4 +1,4 @@
-ghost use Rattle.std.specs.Prelude.{◌≡◌, ◌+◌, ◌++◌, ℕ, [], ◌∷◌, IfOk, OnOk, codes, decimal};
+ghost use Rattle.std.specs.Prelude.{◌≡◌, ◌+◌, ◌++◌, ℕ, [], ◌∷◌, IfOk, OnOk, decimal};
 ghost use Rattle.pgn_drill.specs.Drill.{AddsLines, await_line, block_lines, drill, next_state, note_lines, notify_line, opening_lines, sent_lines, state_after, up_to};
 
 use itoa::Buffer;
@@ -34,12 +34,11 @@ fn next(state: u64) -> u64
 fn opening(text: &mut Vec<u8>, sessions: u32, i: u32) -> Result<(), AllocError>
     ensures { OnOk result (AddsLines text.old.items text.new.items (opening_lines sessions i)) }
 {
-    session(text, i as u64)?;
-    numbered(text, b"LISTEN c", (i % 4) as u64)?;
-    line(text, b"BEGIN")?;
-    numbered(text, b"\\signal up", i as u64)?;
+    numbered(text, b"\\session d", i as u64, b" 1\n")?;
+    numbered(text, b"LISTEN c", (i % 4) as u64, b"\n")?;
+    numbered(text, b"BEGIN\n\\signal up", i as u64, b"\n")?;
     awaits(text, sessions)?;
-    line(text, b"COMMIT")?;
+    put(text, b"COMMIT\n")?;
     Ok(())
 }
 
@@ -48,7 +47,7 @@ fn awaits(text: &mut Vec<u8>, sessions: u32) -> Result<(), AllocError>
     ensures { OnOk result (AddsLines text.old.items text.new.items (up_to await_line sessions)) }
 {
     for i in 0..sessions {
-        numbered(text, b"\\await up", (i + 1) as u64)?;
+        numbered(text, b"\\await up", (i + 1) as u64, b"\n")?;
     }
     Ok(())
 }
@@ -82,11 +81,8 @@ fn note(text: &mut Vec<u8>, j: u64, r: u64) -> Result<(), AllocError>
 fn notify(text: &mut Vec<u8>, j: u64, r: u64) -> Result<(), AllocError>
     ensures { OnOk result (AddsLines text.old.items text.new.items (notify_line j r ∷ [])) }
 {
-    put(text, b"NOTIFY c")?;
-    put(text, Buffer::new().format(j).as_bytes())?;
-    put(text, b", '")?;
-    put(text, Buffer::new().format(r).as_bytes())?;
-    put(text, b"'\n")?;
+    numbered(text, b"NOTIFY c", j, b", '")?;
+    numbered(text, b"", r, b"'\n")?;
     Ok(())
 }
 
@@ -94,43 +90,20 @@ fn notify(text: &mut Vec<u8>, j: u64, r: u64) -> Result<(), AllocError>
 fn in_block(text: &mut Vec<u8>, j: u64, r: u64) -> Result<(), AllocError>
     ensures { OnOk result (AddsLines text.old.items text.new.items (block_lines j r)) }
 {
-    line(text, b"BEGIN")?;
-    line(text, b"SAVEPOINT s")?;
-    line(text, b"NOTIFY gone")?;
-    line(text, b"ROLLBACK TO s")?;
+    put(text, b"BEGIN\nSAVEPOINT s\nNOTIFY gone\nROLLBACK TO s\n")?;
     notify(text, j, r)?;
-    line(text, b"COMMIT")?;
+    put(text, b"COMMIT\n")?;
     Ok(())
 }
 
-// The line that begins a session.
-fn session(text: &mut Vec<u8>, i: u64) -> Result<(), AllocError>
+// A number between two texts.
+fn numbered(text: &mut Vec<u8>, head: &[u8], number: u64, tail: &[u8]) -> Result<(), AllocError>
     ensures { OnOk result
-        (AddsLines text.old.items text.new.items
-        ((codes "\\session d" ++ decimal i ++ codes " 1") ∷ [])) }
-{
-    put(text, b"\\session d")?;
-    put(text, Buffer::new().format(i).as_bytes())?;
-    put(text, b" 1\n")?;
-    Ok(())
-}
-
-// A line that ends with a number.
-fn numbered(text: &mut Vec<u8>, head: &[u8], number: u64) -> Result<(), AllocError>
-    ensures { OnOk result
-        (AddsLines text.old.items text.new.items ((head.now ++ decimal number) ∷ [])) }
+        (text.new.items ≡ text.old.items ++ (head.now ++ decimal number ++ tail.now)) }
 {
     put(text, head)?;
     put(text, Buffer::new().format(number).as_bytes())?;
-    put(text, b"\n")?;
-    Ok(())
-}
-
-fn line(text: &mut Vec<u8>, whole: &[u8]) -> Result<(), AllocError>
-    ensures { OnOk result (AddsLines text.old.items text.new.items (whole.now ∷ [])) }
-{
-    put(text, whole)?;
-    put(text, b"\n")?;
+    put(text, tail)?;
     Ok(())
 }
 

@@ -1,4 +1,4 @@
-use Rattle.std.proofs.Common.{Result, IfOk, subst}
+use Rattle.std.proofs.Common.{IfOk, subst}
 use Rattle.pgn_options.specs.Parse.{IsApp}
 use Rattle.pgn_options.proofs.CommandLaws.{adds-argument}
 use Rattle.pgn_options.proofs.command.with_argument.Goals as goal

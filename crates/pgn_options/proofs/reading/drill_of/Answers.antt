@@ -1,4 +1,4 @@
-use Rattle.std.proofs.Common.{◌≡◌, Some, arith}
+use Rattle.std.proofs.Common.{Some, arith}
 use Rattle.pgn_options.specs.Parse.{seed_max}
 use Rattle.pgn_options.proofs.reading.drill_of.Goals as goal
 
