@@ -50,8 +50,14 @@ impl Flags {
         ensures within { IfOk result (λ number. number < length self.new.names) }
         ensures after { OnOk result (self.new ≡ signalling self.old flag) }
     {
-        let copy = flag.copy(alloc)?;
-        let (number, _) = self.names.insert_full(flag)?;
+        let Ok(copy) = flag.copy(alloc) else {
+            drop(flag);
+            return Err(AllocError);
+        };
+        let Ok((number, _)) = self.names.insert_full(flag) else {
+            drop(copy);
+            return Err(AllocError);
+        };
         self.signalled.insert(copy)?;
         Ok(number)
     }
@@ -62,10 +68,18 @@ impl Flags {
         ensures within { IfOk result (λ number. number < length self.new.names) }
         ensures after { OnOk result (self.new ≡ awaiting self.old flag line) }
     {
-        let copy = flag.copy(alloc)?;
-        let (number, _) = self.names.insert_full(flag)?;
+        let Ok(copy) = flag.copy(alloc) else {
+            drop(flag);
+            return Err(AllocError);
+        };
+        let Ok((number, _)) = self.names.insert_full(flag) else {
+            drop(copy);
+            return Err(AllocError);
+        };
         if !self.awaited.contains_key(&copy) {
             self.awaited.insert(copy, line)?;
+        } else {
+            drop(copy);
         }
         Ok(number)
     }

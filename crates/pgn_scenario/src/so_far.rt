@@ -1,4 +1,4 @@
-ghost use Rattle.std.specs.Prelude.{◌≡◌, ◌+◌, ◌^◌, ◌<◌, ◌≤◌, false, length, option_map, IfOk, IfSome, OnOk, OnErr};
+ghost use Rattle.std.specs.Prelude.{◌≡◌, ◌+◌, ◌++◌, ◌^◌, ◌<◌, ◌≤◌, false, [], ◌∷◌, length, option_map, IfOk, IfSome, OnOk, OnErr};
 ghost use Rattle.pgn_base.specs.declared.limits.TheConstants.{INPUT_BYTES_MAX, NOTE_LINES_MAX, SECTIONS_MAX};
 ghost use Rattle.pgn_base.specs.Names.{has_name};
 ghost use Rattle.pgn_language.specs.Inputs.{is_note_act};
@@ -163,9 +163,10 @@ impl SoFar {
         ensures { OnOk result (self.new ≡ opened self.old name db) }
     {
         let no = SessionNo::new(self.names.len() as u32 + 1);
-        let copy = name.copy(alloc)?;
-        self.names.insert(copy)?;
-        self.end_part()?;
+        if let Err(AllocError) = self.enter(alloc, &name) {
+            drop(name);
+            return Err(AllocError);
+        }
         let section = Section {
             no,
             name,
@@ -175,6 +176,18 @@ impl SoFar {
         };
         drop(self.part.replace(section));
         self.quit = false;
+        Ok(())
+    }
+
+    // The name is a section's, and the section that has not ended ends.
+    fn enter(&mut self, alloc: Global, name: &Name) -> Result<(), AllocError>
+        requires { has_name self.old.names name.now ≡ false }
+        ensures { OnOk result
+            (self.new ≡ record (ended self.old) { names = self.old.names ++ name.now ∷ [] }) }
+    {
+        let copy = name.copy(alloc)?;
+        self.names.insert(copy)?;
+        self.end_part()?;
         Ok(())
     }
 
@@ -275,9 +288,13 @@ impl SoFar {
         ensures { OnOk result (self.new ≡ acted self.old text.now act) }
     {
         let note = is_note(&act);
+        let Ok(text) = LineText::new(alloc, text) else {
+            drop(act);
+            return Err(AllocError);
+        };
         let line = ScriptLine {
             line: self.line,
-            text: LineText::new(alloc, text)?,
+            text,
             act,
         };
         self.notes += usize::from(note);
