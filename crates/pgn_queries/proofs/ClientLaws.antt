@@ -1,5 +1,5 @@
 -- What comes next of a client's bytes, as it is read.
-use Rattle.std.proofs.Common.{◌≡◌, ◌≢◌, ℕ, ◌+◌, ◌-◌, ◌<◌, ◌≤◌, min, List, [], ◌∷◌, ◌++◌, length, take, Option, Some, None, Result, Ok, Err, IfOk, sym, ap, ◌∙◌, subst, refl, arith, append-nil}
+use Rattle.std.proofs.Common.{◌≡◌, ◌≢◌, ℕ, ◌+◌, ◌-◌, ◌<◌, ◌≤◌, min, Bool, true, false, cond, List, [], ◌∷◌, ◌++◌, length, take, Option, Some, None, Result, Ok, Err, IfOk, sym, ap, ◌∙◌, subst, refl, arith, append-nil}
 use Rattle.std.specs.Int.{w32, from_be_bytes}
 use Rattle.std.specs.Io.KnownBytes.{Consumes, IsAtEnd}
 use Rattle.std.proofs.lemmas.List.{length-append, length-take, length-take-le, take_all, take_at, take-append-le}
@@ -97,6 +97,15 @@ pub Body-bad : (at size n : ℕ) (body text : List ℕ) (a b : Option (List ℕ)
 Body-bad at size n body text a b len enough none h =
     let all : take n body ≡ body = take_all n body (omega arith) in
     OfKnown-read (BodyIs at size (Fault (BadText at)) text) a b body (subst (λ (xs : List ℕ). Consumes a b xs) all h) (λ rest. client.BodyIs.Bad (body ++ rest) body rest text rest refl len none)
+
+-- a test of a body that was passed, or was not
+pub body_passes : (b : Bool) (slice items : List ℕ) → cond b (IsBody slice) (IsNoBody slice) → slice ≡ items → b ≡ true → IsBody items
+body_passes true slice items h e is = subst IsBody e h
+body_passes false slice items h e is = absurd (cc)
+
+pub body_fails : (b : Bool) (slice items : List ℕ) → cond b (IsBody slice) (IsNoBody slice) → slice ≡ items → b ≡ false → IsNoBody items
+body_fails true slice items h e is = absurd (cc)
+body_fails false slice items h e is = subst IsNoBody e h
 
 -- the text of a body
 body_text : (size : ℕ) (body text : List ℕ) → length body ≡ size → body ≡ body_of text → take (size - 1) body ≡ text
