@@ -98,11 +98,12 @@ Body-bad at size n body text a b len enough none h =
     let all : take n body ≡ body = take_all n body (omega arith) in
     OfKnown-read (BodyIs at size (Fault (BadText at)) text) a b body (subst (λ (xs : List ℕ). Consumes a b xs) all h) (λ rest. client.BodyIs.Bad (body ++ rest) body rest text rest refl len none)
 
--- a test of a body that was passed, or was not
+-- what a test of a body tells where it is passed
 pub body_passes : (b : Bool) (slice items : List ℕ) → cond b (IsBody slice) (IsNoBody slice) → slice ≡ items → b ≡ true → IsBody items
 body_passes true slice items h e is = subst IsBody e h
 body_passes false slice items h e is = absurd (cc)
 
+-- what it tells where it is not
 pub body_fails : (b : Bool) (slice items : List ℕ) → cond b (IsBody slice) (IsNoBody slice) → slice ≡ items → b ≡ false → IsNoBody items
 body_fails true slice items h e is = absurd (cc)
 body_fails false slice items h e is = subst IsNoBody e h
