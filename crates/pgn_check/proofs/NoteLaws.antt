@@ -1,5 +1,5 @@
 -- Notifications of a transaction that are all different.
-use Rattle.std.proofs.Common.{◌≡◌, ◌≢◌, suc, ◌<◌, Bool, true, false, ◌||◌, List, [], ◌∷◌, ◌++◌, length, get_or, sym, ap, ◌∙◌, refl, arith}
+use Rattle.std.proofs.Common.{◌≡◌, ◌≢◌, suc, ◌<◌, Bool, true, false, ◌||◌, cond, not, List, [], ◌∷◌, ◌++◌, length, get_or, sym, ap, ◌∙◌, refl, subst, arith}
 use Rattle.std.specs.Prelude.{All, AllPairs}
 use Rattle.std.specs.List.{list_any}
 use Rattle.std.proofs.lemmas.List.Elements.{All-nil, All-cons, All-head, All-tail}
@@ -83,3 +83,25 @@ pub short_has_none : (notes : List Note) → length notes < 2 → repeats_after 
 short_has_none [] h = refl
 short_has_none (note ∷ []) h = refl
 short_has_none (note ∷ other ∷ notes) h = absurd (omega (arith, h))
+
+was : (t : Bool) → not t ≡ false → t ≡ true
+was true h = refl
+was false h = absurd (true_is_not h)
+
+was_not : (t : Bool) → not t ≡ true → t ≡ false
+was_not false h = refl
+was_not true h = absurd (true_is_not (sym h))
+
+-- a notification that is not new repeats
+pub repeat_found : (keys rest : List Note) (note copy : Note) (b : Bool) → copy ≡ note → b ≡ not (list_any (same_note copy) keys) → b ≡ false → repeats_after keys (note ∷ rest) ≡ true
+repeat_found keys rest note copy b same test off =
+    let there : list_any (same_note note) keys ≡ true = subst (λ (n : Note). list_any (same_note n) keys ≡ true) same (was (list_any (same_note copy) keys) (sym test ∙ off)) in
+    ap (λ (t : Bool). t || repeats_after (keys ++ note ∷ []) rest) there
+
+-- one that is new does not, and is seen from then on
+pub repeat_none : (keys now rest : List Note) (note copy : Note) (b : Bool) → copy ≡ note → b ≡ not (list_any (same_note copy) keys) → b ≡ true → now ≡ cond (list_any (same_note copy) keys) keys (keys ++ copy ∷ [])
+    → repeats_after keys (note ∷ rest) ≡ repeats_after now rest
+repeat_none keys now rest note copy b same test on put =
+    let absent : list_any (same_note copy) keys ≡ false = was_not (list_any (same_note copy) keys) (sym test ∙ on) in
+    let more : now ≡ keys ++ note ∷ [] = subst (λ (n : Note). now ≡ keys ++ n ∷ []) same (put ∙ ap (λ (t : Bool). cond t keys (keys ++ copy ∷ [])) absent) in
+    ap (λ (t : Bool). t || repeats_after (keys ++ note ∷ []) rest) (subst (λ (n : Note). list_any (same_note n) keys ≡ false) same absent) ∙ ap (λ (ks : List Note). repeats_after ks rest) (sym more)

@@ -62,7 +62,12 @@ fn is_queued(tx: &Tx) -> bool
 fn names(sections: &[Section], session: SessionNo) -> bool
     ensures { result ≡ names_section sections.now session }
 {
-    sections.iter().any(|section| section.no == session)
+    for section in sections {
+        if section.no == session {
+            return true;
+        }
+    }
+    false
 }
 
 // No notification stands twice.
@@ -73,17 +78,22 @@ fn are_different(alloc: Global, seed: Seed, notes: &[Note]) -> Result<bool, Allo
     if notes.len() < 2 {
         return Ok(true);
     }
-    no_repeat(alloc, seed, notes)
+    let mut seen = IndexSet::with_hasher(alloc, seed);
+    let different = put_all(alloc, &mut seen, notes);
+    drop(seen);
+    different
 }
 
-// The same, by a set of those that stand before.
-fn no_repeat(alloc: Global, seed: Seed, notes: &[Note]) -> Result<bool, AllocError>
-    ensures { IfOk result (λ different. different ≡ not (repeats_after [] notes.now)) }
+// Puts notifications into a set, up to the first that is not new.
+fn put_all(
+    alloc: Global,
+    seen: &mut IndexSet<Note, Seed>,
+    notes: &[Note],
+) -> Result<bool, AllocError>
+    ensures { IfOk result (λ different. different ≡ not (repeats_after seen.old.keys notes.now)) }
 {
-    let mut seen = IndexSet::with_hasher(alloc, seed);
     for note in notes {
-        let note = note.copy(alloc)?;
-        if !put(&mut seen, note)? {
+        if !put(seen, note.copy(alloc)?)? {
             return Ok(false);
         }
     }

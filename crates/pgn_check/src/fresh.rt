@@ -15,12 +15,14 @@ use pgn_model::Item;
 use pgn_walk::Standing;
 
 /// No read was left out before an item.
-#[tactic(auto, using(crate::proofs::FreshLaws::fresh_no_line, crate::proofs::FreshLaws::fresh_open, crate::proofs::FreshLaws::fresh_late, crate::proofs::FreshLaws::fresh_by))]
 pub fn is_fresh_at(at: &Standing, basis: &Basis, item: &Item) -> bool
     ensures { Asks (terms_of basis.now).section (journal_of basis.now) at.now result
         (λ s. IsFreshAt (terms_of basis.now) (journal_of basis.now) s item.now) }
 {
-    if !begins_line(item) || !at.is_idle() {
+    if !begins_line(item) {
+        return true;
+    }
+    if !at.is_idle() {
         return true;
     }
     if !is_up_to_date(at, basis) {
@@ -30,7 +32,6 @@ pub fn is_fresh_at(at: &Standing, basis: &Basis, item: &Item) -> bool
 }
 
 // Before a line that listens or opens a block a listener has read up to what it was told of.
-#[tactic(auto, using(crate::proofs::FreshLaws::first_none, crate::proofs::FreshLaws::first_by))]
 fn has_read_first(at: &Standing, section: &Section) -> bool
     ensures { (journal : List Tx) → Asks section.now journal at.now result HasReadFirst }
 {
@@ -71,7 +72,7 @@ fn is_read_up(at: &Standing) -> bool
 }
 
 /// A listener need not read up to what it was told of.
-#[tactic(auto, using(crate::proofs::FreshLaws::up_none, crate::proofs::FreshLaws::up_far, crate::proofs::FreshLaws::up_by))]
+#[tactic(auto, using(crate::proofs::FreshLaws::up_none))]
 pub fn is_up_to_date(at: &Standing, basis: &Basis) -> bool
     ensures { Asks (terms_of basis.now).section (journal_of basis.now) at.now result
         (λ s. IsUpToDate (terms_of basis.now) (journal_of basis.now) s) }
@@ -86,7 +87,6 @@ pub fn is_up_to_date(at: &Standing, basis: &Basis) -> bool
 }
 
 // From the mark on nothing is due.
-#[tactic(auto, using(crate::proofs::FreshLaws::finds_by))]
 fn finds_nothing(at: &Standing) -> bool
     ensures { (section : Section) (journal : List Tx) (mark : ℕ) → at.now.mark ≡ Some mark
         → Asks section journal at.now result

@@ -10,7 +10,7 @@ use std::alloc::{AllocError, Global};
 
 /// What a text shows as an output of the scenario, where each transaction of its journal is finished and some section's; or the
 /// number of the first line that is to blame, from 1, whatever the settings of the run. Hashes are made with this seed.
-#[tactic(auto, using(crate::proofs::EntryLaws::read_so_far, crate::proofs::EntryLaws::blamed_in_form, crate::proofs::EntryLaws::blamed_in_journal, crate::proofs::EntryLaws::lines_fit))]
+#[tactic(auto, using(crate::proofs::EntryLaws::lines_fit))]
 pub fn read_journal(
     alloc: Global,
     seed: Seed,
@@ -31,9 +31,16 @@ pub fn read_journal(
         seed,
         scenario.sections.as_slice(),
         reading.journal.as_slice(),
-    )?;
+    );
     match bad {
-        Some(number) => Ok(Err(number)),
-        None => Ok(Ok(reading)),
+        Ok(None) => Ok(Ok(reading)),
+        Ok(Some(number)) => {
+            drop(reading);
+            Ok(Err(number))
+        }
+        Err(AllocError) => {
+            drop(reading);
+            Err(AllocError)
+        }
     }
 }

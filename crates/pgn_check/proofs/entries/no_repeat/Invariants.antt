@@ -1,6 +1,0 @@
-use Rattle.std.proofs.Common.{◌≡◌, [], drop}
-use Rattle.pgn_check.specs.Entries.{repeats_after}
-use Rattle.pgn_check.proofs.entries.no_repeat.Given as goal
-
-abbrev pub invariant-loop-note : goal.invariant-loop-note
-invariant-loop-note l = repeats_after l.seen.keys (drop l.note-index l.notes) ≡ repeats_after [] l.notes
