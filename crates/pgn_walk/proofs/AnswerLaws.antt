@@ -18,28 +18,12 @@ use Rattle.pgn_ledger.specs.declared.to_show.Ending.TheVariants.{Replied, Refuse
 use Rattle.pgn_ledger.specs.declared.to_show.ToShow.{ToShow}
 use Rattle.pgn_ledger.specs.declared.to_show.ToShow.TheVariants as show
 use Rattle.pgn_ledger.specs.ToShow.{ending_of, owed_of}
-use Rattle.pgn_walk.specs.Standing.{Holds}
-use Rattle.pgn_walk.specs.Steps.{Moves}
+use Rattle.pgn_walk.specs.Standing.{Holds, behind}
+use Rattle.pgn_walk.specs.Steps.{Moves, is_leaving}
 use Rattle.pgn_walk.proofs.StandingLaws.{holds_owed}
 use Rattle.pgn_walk.proofs.ItemLaws.{IsBehind, moves_by, moves_not, moves_on}
 
 -- The session stops being a listener.
-
-not_leaving : (left : ToShow) → ((f : Ending) → left ≡ show.Leaving f → ⊥) → (left ≡ show.Quitting → ⊥) → IsLeaving (owed_of left) → ⊥
-not_leaving (show.Leaving f) no_one none is = no_one f refl
-not_leaving show.Quitting no_one none is = none refl
-not_leaving show.Nothing no_one none is = is
-not_leaving (show.Enlisting a n f) no_one none is = is
-not_leaving (show.Queueing a n f) no_one none is = is
-not_leaving (show.Answering f) no_one none is = is
-not_leaving (show.Listing n f) no_one none is = is
-not_leaving (show.Measuring f) no_one none is = is
-not_leaving (show.Raising f) no_one none is = is
-not_leaving (show.Awaiting f) no_one none is = is
-
--- a session that does not owe to leave may not
-pub leave_never : (terms : Terms) (journal : List Tx) (old new : Standing) → ((f : Ending) → old.owed ≡ show.Leaving f → ⊥) → (old.owed ≡ show.Quitting → ⊥) → Moves terms journal old item.Leave false new
-leave_never terms journal old new no_one none = moves_not terms journal old new item.Leave (λ s h allowed. not_leaving old.owed no_one none (subst IsLeaving h.owed allowed))
 
 -- no listener any more
 unmarked : (section : Section) (journal : List Tx) (old : Standing) (s : State) (left : ToShow) (owed : Owed) → Holds section journal old s → owed ≡ owed_of left
@@ -58,18 +42,40 @@ unmarked section journal old s left owed h e = record {
 }
 
 -- a commit that owes it leaves, and owes its answer
-pub leave_on : (terms : Terms) (journal : List Tx) (old : Standing) (ending : Ending) → old.owed ≡ show.Leaving ending → Moves terms journal old item.Leave true (record old { owed = show.Answering ending; mark = None })
+leave_on : (terms : Terms) (journal : List Tx) (old : Standing) (ending : Ending) → old.owed ≡ show.Leaving ending → Moves terms journal old item.Leave true (record old { owed = show.Answering ending; mark = None })
 leave_on terms journal old ending e =
     moves_on terms journal old (record old { owed = show.Answering ending; mark = None }) item.Leave (λ s h. subst IsLeaving (sym (h.owed ∙ ap owed_of e)) tt)
     (λ s h. subst (λ (owed : Owed). Holds terms.section journal (record old { owed = show.Answering ending; mark = None }) (walk.at_leave (record s { mark = None }) owed)) (sym (h.owed ∙ ap owed_of e))
     (unmarked terms.section journal old s (show.Answering ending) (walk.Answering (ending_of ending)) h refl))
 
 -- a quit that owes it leaves, and owes nothing more
-pub leave_quit : (terms : Terms) (journal : List Tx) (old : Standing) → old.owed ≡ show.Quitting → Moves terms journal old item.Leave true (record old { owed = show.Nothing; mark = None })
+leave_quit : (terms : Terms) (journal : List Tx) (old : Standing) → old.owed ≡ show.Quitting → Moves terms journal old item.Leave true (record old { owed = show.Nothing; mark = None })
 leave_quit terms journal old e =
     moves_on terms journal old (record old { owed = show.Nothing; mark = None }) item.Leave (λ s h. subst IsLeaving (sym (h.owed ∙ ap owed_of e)) tt)
     (λ s h. subst (λ (owed : Owed). Holds terms.section journal (record old { owed = show.Nothing; mark = None }) (walk.at_leave (record s { mark = None }) owed)) (sym (h.owed ∙ ap owed_of e))
     (unmarked terms.section journal old s show.Nothing walk.Nothing h refl))
+
+-- a session that does not owe to leave may not
+leave_never : (terms : Terms) (journal : List Tx) (old new : Standing) (left : ToShow) → old.owed ≡ left → (IsLeaving (owed_of left) → ⊥) → Moves terms journal old item.Leave false new
+leave_never terms journal old new left e none = moves_not terms journal old new item.Leave (λ s h allowed. none (subst IsLeaving (h.owed ∙ ap owed_of e) allowed))
+
+leave_at : (terms : Terms) (journal : List Tx) (old : Standing) (left : ToShow) → old.owed ≡ left → Moves terms journal old item.Leave (is_leaving left) (record old { owed = behind left; mark = None })
+leave_at terms journal old (show.Leaving f) e = leave_on terms journal old f e
+leave_at terms journal old show.Quitting e = leave_quit terms journal old e
+leave_at terms journal old show.Nothing e = leave_never terms journal old (record old { mark = None; owed = show.Nothing }) show.Nothing e (λ is. is)
+leave_at terms journal old (show.Enlisting a n f) e = leave_never terms journal old (record old { mark = None; owed = show.Enlisting a n f }) (show.Enlisting a n f) e (λ is. is)
+leave_at terms journal old (show.Queueing a n f) e = leave_never terms journal old (record old { mark = None; owed = show.Queueing a n f }) (show.Queueing a n f) e (λ is. is)
+leave_at terms journal old (show.Answering f) e = leave_never terms journal old (record old { mark = None; owed = show.Answering f }) (show.Answering f) e (λ is. is)
+leave_at terms journal old (show.Listing n f) e = leave_never terms journal old (record old { mark = None; owed = show.Answering f }) (show.Listing n f) e (λ is. is)
+leave_at terms journal old (show.Measuring f) e = leave_never terms journal old (record old { mark = None; owed = show.Answering f }) (show.Measuring f) e (λ is. is)
+leave_at terms journal old (show.Raising f) e = leave_never terms journal old (record old { mark = None; owed = show.Raising f }) (show.Raising f) e (λ is. is)
+leave_at terms journal old (show.Awaiting f) e = leave_never terms journal old (record old { mark = None; owed = show.Awaiting f }) (show.Awaiting f) e (λ is. is)
+
+-- a session may leave exactly where that is what it owes
+pub leave_by : (terms : Terms) (journal : List Tx) (old new : Standing) (b : Bool) → b ≡ is_leaving old.owed → new ≡ record old { owed = behind old.owed; mark = None } → Moves terms journal old item.Leave b new
+leave_by terms journal old new b is e =
+    subst (λ (n : Standing). Moves terms journal old item.Leave b n) (sym e)
+    (subst (λ (x : Bool). Moves terms journal old item.Leave x (record old { owed = behind old.owed; mark = None })) (sym is) (leave_at terms journal old old.owed refl))
 
 -- A tag, and a refusal.
 
@@ -183,16 +189,25 @@ not_listing show.Quitting names no_one is = is
 pub rows_never : (terms : Terms) (journal : List Tx) (old new : Standing) (names : List (List ℕ)) → ((ns : List (List ℕ)) (f : Ending) → old.owed ≡ show.Listing ns f → ⊥) → Moves terms journal old (item.Channels names) false new
 rows_never terms journal old new names no_one = moves_not terms journal old new (item.Channels names) (λ s h allowed. not_listing old.owed names no_one (subst (IsListing names) h.owed allowed))
 
--- channels are allowed exactly where they are those that are owed
-pub rows_by : (terms : Terms) (journal : List Tx) (old : Standing) (names due : List (List ℕ)) (ending : Ending) (b : Bool) → old.owed ≡ show.Listing due ending → (b ≡ true) ↔ (names ≡ due)
+-- behind what is owed, where that is this
+gone : (old new : Standing) (left : ToShow) → old.owed ≡ left → new ≡ record old { owed = behind old.owed } → new ≡ record old { owed = behind left }
+gone old new left e is = is ∙ ap (λ (due : ToShow). let at : Standing = record old { owed = behind due } in at) e
+
+rows_at : (terms : Terms) (journal : List Tx) (old : Standing) (names due : List (List ℕ)) (ending : Ending) (b : Bool) → old.owed ≡ show.Listing due ending → (b ≡ true) ↔ (names ≡ due)
     → Moves terms journal old (item.Channels names) b (record old { owed = show.Answering ending })
-rows_by terms journal old names due ending b e f =
+rows_at terms journal old names due ending b e f =
     moves_by terms journal old (record old { owed = show.Answering ending }) (item.Channels names) b
     (λ s h.
     let owed : s.owed ≡ walk.Listing due (ending_of ending) = h.owed ∙ ap owed_of e in
     (λ t. subst (IsListing names) (sym owed) (f.0 t), λ allowed. f.1 (subst (IsListing names) owed allowed)))
     (λ s h. subst (λ (owed : Owed). Holds terms.section journal (record old { owed = show.Answering ending }) (walk.at_rows s owed)) (sym (h.owed ∙ ap owed_of e))
     (holds_owed terms.section journal old s (show.Answering ending) (walk.Answering (ending_of ending)) h refl))
+
+-- channels are allowed exactly where they are those that are owed
+pub rows_by : (terms : Terms) (journal : List Tx) (old new : Standing) (names due : List (List ℕ)) (ending : Ending) (b : Bool) → old.owed ≡ show.Listing due ending → (b ≡ true) ↔ (names ≡ due)
+    → new ≡ record old { owed = behind old.owed } → Moves terms journal old (item.Channels names) b new
+rows_by terms journal old new names due ending b e f is =
+    subst (λ (n : Standing). Moves terms journal old (item.Channels names) b n) (sym (gone old new (show.Listing due ending) e is)) (rows_at terms journal old names due ending b e f)
 
 -- A usage.
 
@@ -227,12 +242,13 @@ measure_floor terms journal old new usage b test is = moves_not terms journal ol
     false≢true (sym is ∙ test.1 (subst (λ (m : Option ℕ). IsFloorFor terms.section.no m usage.floor_mark usage.holder) h.mark allowed.floor)))
 
 -- a usage that is owed and passes these tests is allowed
-pub measure_on : (terms : Terms) (journal : List Tx) (old : Standing) (usage : Usage) (b d f : Bool) (ending : Ending) → (b ≡ true) ↔ IsBehind old usage.at → b ≡ true
+pub measure_on : (terms : Terms) (journal : List Tx) (old new : Standing) (usage : Usage) (b d f : Bool) (ending : Ending) → (b ≡ true) ↔ IsBehind old usage.at → b ≡ true
     → (d ≡ true) ↔ ShowsUsage terms.settings.format terms.settings.limit journal usage → d ≡ true → (f ≡ true) ↔ IsFloorFor terms.section.no old.mark usage.floor_mark usage.holder → f ≡ true
-    → old.owed ≡ show.Measuring ending → Moves terms journal old (item.Used usage) true (record old { owed = show.Answering ending })
-measure_on terms journal old usage b d f ending test is shown found floor held e =
+    → old.owed ≡ show.Measuring ending → new ≡ record old { owed = behind old.owed } → Moves terms journal old (item.Used usage) true new
+measure_on terms journal old new usage b d f ending test is shown found floor held e left =
     let t = test.0 is in
-    moves_on terms journal old (record old { owed = show.Answering ending }) (item.Used usage)
+    subst (λ (n : Standing). Moves terms journal old (item.Used usage) true n) (sym (gone old new (show.Measuring ending) e left))
+    (moves_on terms journal old (record old { owed = show.Answering ending }) (item.Used usage)
     (λ s h. record {
       expected = subst IsMeasuring (sym (h.owed ∙ ap owed_of e)) tt;
       after_told = omega (arith, h.told, t.0);
@@ -255,4 +271,4 @@ measure_on terms journal old usage b d f ending test is shown found floor held e
       watch = h.watch;
     } in
     subst (λ (owed : Owed). Holds terms.section journal (record old { owed = show.Answering ending }) (walk.at_rows named owed)) (sym (h.owed ∙ ap owed_of e))
-    (holds_owed terms.section journal old named (show.Answering ending) (walk.Answering (ending_of ending)) stands refl))
+    (holds_owed terms.section journal old named (show.Answering ending) (walk.Answering (ending_of ending)) stands refl)))

@@ -3,7 +3,6 @@ use Rattle.std.proofs.Common.{◌≡◌, ℕ, ◌==◌, Bool, true, false, ◌&&
 use Rattle.std.specs.List.{list_any}
 use Rattle.std.proofs.lemmas.Bool.{false≢true}
 use Rattle.std.proofs.lemmas.Bool.Decides.{Decides-eqb}
-use Rattle.std.proofs.lemmas.List.{nil_from_length}
 use Rattle.pgn_base.specs.declared.note.Note.{Note}
 use Rattle.pgn_base.specs.declared.listen_set.Action.{Action}
 use Rattle.pgn_base.specs.Channels.{applied}
@@ -17,9 +16,10 @@ use Rattle.pgn_model.specs.Walk.{State, is_empty_set, leaving_or_answering, queu
 use Rattle.pgn_model.specs.Walk as walk
 use Rattle.pgn_walk.specs.declared.standing.Standing.{Standing}
 use Rattle.pgn_ledger.specs.declared.to_show.Ending.{Ending}
+use Rattle.pgn_ledger.specs.declared.to_show.ToShow.{ToShow}
 use Rattle.pgn_ledger.specs.declared.to_show.ToShow.TheVariants as show
 use Rattle.pgn_ledger.specs.ToShow.{ending_of}
-use Rattle.pgn_walk.specs.Standing.{Holds, Leads, commits}
+use Rattle.pgn_walk.specs.Standing.{GoesOn, Holds, IsReadyFor, Leads, commits}
 use Rattle.pgn_walk.proofs.StandingLaws.{holds_owed}
 
 -- the test that the walk makes is that of the session
@@ -55,11 +55,24 @@ acts at set watch actions e follows section journal s h = record {
   watch = subst (λ (channels : List (List ℕ)). IsWatch journal section.db channels at.mark watch) (sym e) (follows journal section.db at.set.channels h.watch);
 }
 
--- no actions leave the set as it is
-pub acts_not : (at : Standing) (actions : List Action) → (length actions == 0) ≡ true → Leads at at (λ s. record s { set = applied s.set actions })
-acts_not at actions none section journal s h =
-    let e : actions ≡ [] = nil_from_length actions ((Decides-eqb (length actions) 0).0 none) in
-    subst (λ (them : List Action). Holds section journal at (record s { set = applied s.set them })) (sym e) h
+-- a session that is ready for actions has them take effect
+pub acts_ready : (old mid : Standing) (set : Listening) (actions : List Action) → IsReadyFor actions old mid → set.channels ≡ applied mid.set.channels actions → Leads old (record mid { set = set }) (λ s. record s { set = applied s.set actions })
+acts_ready old mid set actions h e =
+    subst (λ (at : Standing). Leads old (record at { set = set }) (λ s. record s { set = applied s.set actions })) (sym h.same)
+    (acts old set mid.watch actions (e ∙ ap (λ (channels : List (List ℕ)). applied channels actions) h.channels) h.watch)
+
+-- what is neither to enlist nor to publish goes nowhere
+pub goes_nowhere : (left : ToShow) (old new : Standing) → ((a : List Action) (n : List Note) (f : Ending) → left ≡ show.Enlisting a n f → ⊥) → ((a : List Action) (n : List Note) (f : Ending) → left ≡ show.Queueing a n f → ⊥) → GoesOn left old new
+goes_nowhere (show.Enlisting a n f) old new one other = absurd (one a n f refl)
+goes_nowhere (show.Queueing a n f) old new one other = absurd (other a n f refl)
+goes_nowhere show.Nothing old new one other = tt
+goes_nowhere (show.Leaving f) old new one other = tt
+goes_nowhere (show.Answering f) old new one other = tt
+goes_nowhere (show.Listing n f) old new one other = tt
+goes_nowhere (show.Measuring f) old new one other = tt
+goes_nowhere (show.Raising f) old new one other = tt
+goes_nowhere (show.Awaiting f) old new one other = tt
+goes_nowhere show.Quitting old new one other = tt
 
 -- the notifications come next
 pub queues : (at : Standing) (actions : List Action) (notes : List Note) (ending : Ending) → (length notes == 0) ≡ false → Leads at (record at { owed = show.Queueing actions notes ending }) (λ s. queueing_or_settled s actions notes (ending_of ending))

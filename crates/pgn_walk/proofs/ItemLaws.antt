@@ -18,7 +18,7 @@ use Rattle.pgn_due.specs.declared.watch.Watch.{Watch}
 use Rattle.pgn_language.specs.declared.scenario.ScriptLine.{ScriptLine}
 use Rattle.pgn_model.specs.declared.item.Item.{Item}
 use Rattle.pgn_model.specs.declared.item.Item.TheVariants as item
-use Rattle.pgn_model.specs.Walk.{Owed, State, Terms, Allowed, IsAbortedBy, IsCommittedBy, IsEnlisting, IsNext, IsQueueing, after_item, at_act, at_line, leaving_or_answering, queueing_or_settled, settled}
+use Rattle.pgn_model.specs.Walk.{Owed, State, Terms, Allowed, IsAbortedBy, IsCommittedBy, IsEnlisting, IsNext, IsQueueing, after_item, at_act, at_line, leaving_or_answering, queueing_or_settled}
 use Rattle.pgn_model.specs.Walk as walk
 use Rattle.pgn_reading.specs.Completed.{notes_of, with_owed}
 use Rattle.pgn_walk.specs.declared.standing.Standing.{Standing}
@@ -27,7 +27,7 @@ use Rattle.pgn_ledger.specs.declared.to_show.Ending.TheVariants.{Refused}
 use Rattle.pgn_ledger.specs.declared.to_show.ToShow.{ToShow}
 use Rattle.pgn_ledger.specs.declared.to_show.ToShow.TheVariants as show
 use Rattle.pgn_ledger.specs.ToShow.{ending_of, owed_of}
-use Rattle.pgn_walk.specs.Standing.{Holds, IsGreatestMark, Leads}
+use Rattle.pgn_walk.specs.Standing.{GoesOn, Holds, IsGreatestMark, Leads}
 use Rattle.pgn_walk.specs.Steps.{BeginsFrom, Moves}
 
 -- What every item's judgement comes to.
@@ -168,9 +168,10 @@ enlist_never terms journal old new base point no_one = moves_not terms journal o
 pub enlist_on : (terms : Terms) (journal : List Tx) (old new : Standing) (watch : Watch) (base point : ℕ) (b : Bool) (actions : List Action) (notes : List Note) (ending : Ending)
     → (b ≡ true) ↔ ((base ≤ point) × (old.told ≤ point) × (old.greatest ≤ point) × (point ≤ next_xid journal)) → b ≡ true → 3 ≤ base → old.owed ≡ show.Enlisting actions notes ending
     → ((journal : List Tx) (db : ℕ) (before : List (List ℕ)) (was : Option ℕ) → IsWatch journal db before was old.watch → IsWatch journal db old.set.channels (Some point) watch)
-    → Leads (record old { owed = show.Nothing; mark = Some point; told = point; greatest = point; watch = watch }) new (λ s. queueing_or_settled s actions notes (ending_of ending)) → Moves terms journal old (item.Enlist base point) true new
-enlist_on terms journal old new watch base point b actions notes ending test is first e begins on =
+    → GoesOn old.owed (record old { owed = show.Nothing; mark = Some point; told = point; greatest = point; watch = watch }) new → Moves terms journal old (item.Enlist base point) true new
+enlist_on terms journal old new watch base point b actions notes ending test is first e begins goes =
     let t = test.0 is in
+    let on = subst (λ (left : ToShow). GoesOn left (record old { owed = show.Nothing; mark = Some point; told = point; greatest = point; watch = watch }) new) e goes in
     moves_on terms journal old new (item.Enlist base point)
     (λ s h. record {
       expected = subst IsEnlisting (sym (h.owed ∙ ap owed_of e)) tt;
@@ -237,9 +238,10 @@ publish_other terms journal old new xid none b actions notes ending e test is = 
 -- a transaction that passes these tests is published, and the commit is settled
 pub publish_on : (terms : Terms) (journal : List Tx) (old new : Standing) (xid : ℕ) (none : List Note) (b d : Bool) (actions : List Action) (notes : List Note) (ending : Ending) → old.owed ≡ show.Queueing actions notes ending
     → (b ≡ true) ↔ IsBehind old xid → b ≡ true → (d ≡ true) ↔ IsSomeAnd (entry journal xid) (IsCommittedBy terms.section notes) → d ≡ true
-    → Leads (record old { owed = show.Nothing; told = xid + 1 }) new (λ s. settled s actions (ending_of ending)) → Moves terms journal old (item.Publish xid none) true new
-publish_on terms journal old new xid none b d actions notes ending e test is there found on =
+    → GoesOn old.owed (record old { owed = show.Nothing; told = xid + 1 }) new → Moves terms journal old (item.Publish xid none) true new
+publish_on terms journal old new xid none b d actions notes ending e test is there found goes =
     let t = test.0 is in
+    let on = subst (λ (left : ToShow). GoesOn left (record old { owed = show.Nothing; told = xid + 1 }) new) e goes in
     moves_on terms journal old new (item.Publish xid none)
     (λ s h. record {
       expected = subst (λ (owed : Owed). IsQueueing (notes_of owed) owed) (sym (h.owed ∙ ap owed_of e)) refl;
@@ -291,7 +293,7 @@ full_floor terms journal old new full none b test is = moves_not terms journal o
 pub full_on : (terms : Terms) (journal : List Tx) (old new : Standing) (full : Full) (none : List Note) (b d f : Bool) (actions : List Action) (notes : List Note) (ending : Ending) → old.owed ≡ show.Queueing actions notes ending
     → (b ≡ true) ↔ IsBehind old full.xid → b ≡ true → (d ≡ true) ↔ IsSomeAnd (entry journal full.xid) (IsAbortedBy terms.section notes full.queued) → d ≡ true
     → (f ≡ true) ↔ IsFloorFor terms.section.no old.mark full.floor_mark full.holder → f ≡ true
-    → Leads (record old { owed = show.Nothing; told = full.xid + 1 }) new (λ s. leaving_or_answering s (ending_of (Refused refused.QueueFull))) → Moves terms journal old (item.QueueFull full none) true new
+    → Leads (record old { told = full.xid + 1 }) new (λ s. leaving_or_answering s (ending_of (Refused refused.QueueFull))) → Moves terms journal old (item.QueueFull full none) true new
 full_on terms journal old new full none b d f actions notes ending e test is there found floor held on =
     let t = test.0 is in
     moves_on terms journal old new (item.QueueFull full none)
@@ -304,9 +306,9 @@ full_on terms journal old new full none b d f actions notes ending e test is the
     })
     (λ s h.
     let told : State = record s { told = max s.told (full.xid + 1); named = s.named ++ walk.holder_at full.holder full.floor_mark } in
-    let stands : Holds terms.section journal (record old { owed = show.Nothing; told = full.xid + 1 }) (record told { owed = walk.Nothing }) = record {
+    let stands : Holds terms.section journal (record old { told = full.xid + 1 }) told = record {
       rest = h.rest;
-      owed = refl;
+      owed = h.owed;
       block = h.block;
       changes = h.changes;
       set = h.set;
@@ -316,4 +318,4 @@ full_on terms journal old new full none b d f actions notes ending e test is the
       flags = h.flags;
       watch = h.watch;
     } in
-    subst (λ (owed : Owed). Holds terms.section journal new (walk.at_full told owed)) (sym (h.owed ∙ ap owed_of e)) (on terms.section journal (record told { owed = walk.Nothing }) stands))
+    subst (λ (owed : Owed). Holds terms.section journal new (walk.at_full told owed)) (sym (h.owed ∙ ap owed_of e)) (on terms.section journal told stands))

@@ -11,11 +11,11 @@ use Rattle.pgn_walk.specs.declared.standing.Standing.{Standing}
 use Rattle.pgn_ledger.specs.declared.to_show.ToShow.{ToShow}
 use Rattle.pgn_ledger.specs.declared.to_show.ToShow.TheVariants as show
 use Rattle.pgn_ledger.specs.ToShow.{ending_of, owed_of}
-use Rattle.pgn_walk.specs.Standing.{Holds, behind_rows, has_no_rows}
+use Rattle.pgn_walk.specs.Standing.{Holds, behind, has_no_rows}
 use Rattle.pgn_walk.proofs.StandingLaws.{holds_owed}
 
 -- by what is left to show
-ready_skips : (s : State) (left : ToShow) → s.owed ≡ owed_of left → has_no_rows left ≡ true → ready s ≡ record s { owed = owed_of (behind_rows left) }
+ready_skips : (s : State) (left : ToShow) → s.owed ≡ owed_of left → has_no_rows left ≡ true → ready s ≡ record s { owed = owed_of (behind left) }
 ready_skips s (show.Listing [] ending) e h = ap (λ (owed : Owed). fold after_item s (without_line owed)) e ∙ ap (λ (owed : Owed). walk.at_rows s owed) e
 ready_skips s (show.Listing (name ∷ names) ending) e h =
     let some : (length (name ∷ names) == 0) ≡ true = h in
@@ -49,9 +49,9 @@ ready_stays s (show.Awaiting flag) e h = same s (walk.Awaiting flag) e refl
 ready_stays s show.Quitting e h = same s walk.Quitting e refl
 
 -- a walk that owes rows of which there are none passes them over, as the state does
-pub ready_with : (section : Section) (journal : List Tx) (at : Standing) (s : State) → has_no_rows at.owed ≡ true → Holds section journal at s → Holds section journal (record at { owed = behind_rows at.owed }) (ready s)
+pub ready_with : (section : Section) (journal : List Tx) (at : Standing) (s : State) → has_no_rows at.owed ≡ true → Holds section journal at s → Holds section journal (record at { owed = behind at.owed }) (ready s)
 ready_with section journal at s none h =
-    subst (λ (t : State). Holds section journal (record at { owed = behind_rows at.owed }) t) (sym (ready_skips s at.owed h.owed none)) (holds_owed section journal at s (behind_rows at.owed) (owed_of (behind_rows at.owed)) h refl)
+    subst (λ (t : State). Holds section journal (record at { owed = behind at.owed }) t) (sym (ready_skips s at.owed h.owed none)) (holds_owed section journal at s (behind at.owed) (owed_of (behind at.owed)) h refl)
 
 -- each other walk stays where it stands
 pub ready_without : (section : Section) (journal : List Tx) (at : Standing) (s : State) → has_no_rows at.owed ≡ false → Holds section journal at s → Holds section journal at (ready s)

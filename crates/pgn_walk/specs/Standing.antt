@@ -4,16 +4,17 @@ use Rattle.std.specs.List.{list_any}
 use Rattle.std.specs.Map.{lookup}
 use Rattle.pgn_base.specs.declared.note.Note.{Note}
 use Rattle.pgn_base.specs.declared.listen_set.Action.{Action}
+use Rattle.pgn_base.specs.Channels.{applied}
 use Rattle.pgn_answers.specs.Savepoints.{is_listen}
 use Rattle.pgn_journal.specs.declared.tx.Tx.{Tx}
 use Rattle.pgn_due.specs.Next.{IsWatch}
 use Rattle.pgn_language.specs.declared.scenario.Section.{Section}
-use Rattle.pgn_model.specs.Walk.{State, IsGreatest, IsUnknown, queueing_or_settled}
+use Rattle.pgn_model.specs.Walk.{State, IsGreatest, IsUnknown, queueing_or_settled, settled}
 use Rattle.pgn_model.specs.Walk as walk
 use Rattle.pgn_pending.specs.Kept.{StandsFor}
 use Rattle.pgn_ledger.specs.declared.to_show.ToShow.{ToShow}
 use Rattle.pgn_ledger.specs.declared.to_show.ToShow.TheVariants as show
-use Rattle.pgn_ledger.specs.ToShow.{owed_of}
+use Rattle.pgn_ledger.specs.ToShow.{ending_of, owed_of}
 use Rattle.pgn_walk.specs.declared.standing.Standing.{Standing}
 
 -- a mark is no less than each of these exactly where it is no less than this one
@@ -55,7 +56,23 @@ abbrev pub has_no_rows : ToShow → Bool
 has_no_rows (show.Listing names ending) = length names == 0
 has_no_rows other = false
 
--- the answer comes behind rows
-abbrev pub behind_rows : ToShow → ToShow
-behind_rows (show.Listing names ending) = show.Answering ending
-behind_rows other = other
+-- what is left to show behind rows, or where a session has left
+abbrev pub behind : ToShow → ToShow
+behind (show.Listing names ending) = show.Answering ending
+behind (show.Measuring ending) = show.Answering ending
+behind (show.Leaving ending) = show.Answering ending
+behind show.Quitting = show.Nothing
+behind other = other
+
+-- a commit that was to enlist or to publish goes on from one standing to another
+abbrev pub GoesOn : ToShow → Standing → Standing → Type 0
+GoesOn (show.Enlisting actions notes ending) old new = Leads old new (λ s. queueing_or_settled s actions notes (ending_of ending))
+GoesOn (show.Queueing actions notes ending) old new = Leads old new (λ s. settled s actions (ending_of ending))
+GoesOn other old new = Unit {0}
+
+-- the set has room for actions, and what is due next is due as after them
+pub record IsReadyFor (actions : List Action) (old new : Standing) : Type 0 where
+  pub same : new ≡ record old { set = new.set; watch = new.watch }
+  pub channels : new.set.channels ≡ old.set.channels
+  pub room : length actions ≤ new.set.room
+  pub watch : (journal : List Tx) (db : ℕ) (channels : List (List ℕ)) → IsWatch journal db channels old.mark old.watch → IsWatch journal db (applied channels actions) old.mark new.watch

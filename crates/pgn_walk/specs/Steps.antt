@@ -46,6 +46,12 @@ pub record Knows (old : Standing) (flag value : ℕ) (new : Standing) : Type 0 w
   pub more : (other most : ℕ) → IfSome (known_at new.known.entries other) (λ known. known ≤ most) ↔ (IfSome (known_at old.known.entries other) (λ known. known ≤ most) × (other ≡ flag → value ≤ most))
   pub none : (other : ℕ) → (known_at new.known.entries other ≡ None) ↔ ((known_at old.known.entries other ≡ None) × (other ≢ flag))
 
+-- the session is to stop being a listener
+abbrev pub is_leaving : ToShow → Bool
+is_leaving (show.Leaving ending) = true
+is_leaving show.Quitting = true
+is_leaving other = false
+
 -- no block is open
 abbrev pub is_idle : BlockState → Bool
 is_idle Idle = true

@@ -4,17 +4,17 @@ ghost use Rattle.pgn_base.specs.Channels.{applied};
 ghost use Rattle.pgn_answers.specs.Savepoints.{is_listen};
 ghost use Rattle.pgn_model.specs.Walk.{leaving_or_answering, queueing_or_settled, settled};
 ghost use Rattle.pgn_ledger.specs.ToShow.{ending_of};
-ghost use Rattle.pgn_walk.specs.Standing.{Leads, commits};
+ghost use Rattle.pgn_walk.specs.Standing.{GoesOn, IsReadyFor, Leads, commits};
 
 use crate::standing::Standing;
 use pgn_base::{Action, Actions, Notes};
 use pgn_ledger::{Ending, ToShow};
 use std::alloc::AllocError;
+use std::mem;
 
 // A transaction commits.
 impl Standing<'_> {
     /// A session that is to listen and is no listener becomes one first.
-    #[tactic(auto, using(crate::proofs::CommitLaws::enlists, crate::proofs::CommitLaws::goes_on))]
     pub fn commit(
         &mut self,
         actions: Actions,
@@ -43,7 +43,6 @@ impl Standing<'_> {
     }
 
     /// The notifications come next, if there are any.
-    #[tactic(auto, using(crate::proofs::CommitLaws::queues, crate::proofs::CommitLaws::settles))]
     pub fn queue_or_settle(
         &mut self,
         actions: Actions,
@@ -54,6 +53,7 @@ impl Standing<'_> {
             (λ s. queueing_or_settled s actions notes (ending_of ending))) }
     {
         if notes.as_slice().is_empty() {
+            drop(notes);
             return self.settle(actions, ending);
         }
         self.owed.set(ToShow::Queueing {
@@ -69,28 +69,64 @@ impl Standing<'_> {
         ensures { OnOk result (Leads self.old self.new
             (λ s. settled s actions (ending_of ending))) }
     {
-        self.act(actions)?;
+        let acted = self.act(actions);
         self.leave_or_answer(ending);
-        Ok(())
+        acted
     }
 
     // The actions change the set, and what is due next.
-    #[tactic(auto, using(crate::proofs::CommitLaws::acts, crate::proofs::CommitLaws::acts_not))]
     fn act(&mut self, actions: Actions) -> Result<(), AllocError>
         ensures { OnOk result (Leads self.old self.new
             (λ s. record s { set = applied s.set actions })) }
     {
-        if actions.as_slice().is_empty() {
-            return Ok(());
+        match self.watch_for(actions.as_slice()) {
+            Ok(()) => {
+                self.set.apply(actions);
+                Ok(())
+            }
+            Err(AllocError) => {
+                drop(actions);
+                Err(AllocError)
+            }
         }
-        self.set.reserve(actions.as_slice().len())?;
-        self.watch.act(&self.mark, actions.as_slice())?;
-        self.set.apply(actions);
-        Ok(())
+    }
+
+    // The set has room for actions, and what is due next is due as after them.
+    fn watch_for(&mut self, actions: &[Action]) -> Result<(), AllocError>
+        ensures { OnOk result (IsReadyFor actions.now self.old self.new) }
+    {
+        self.set.reserve(actions.len())?;
+        self.watch.act(&self.mark, actions)
+    }
+
+    /// What comes of the commit next, where it was to enlist or to publish.
+    #[tactic(auto, using(crate::proofs::CommitLaws::goes_nowhere))]
+    pub(crate) fn go_on_committing(&mut self) -> Result<(), AllocError>
+        ensures { OnOk result
+            (GoesOn self.old.owed (record self.old { owed = ToShow.Nothing }) self.new) }
+    {
+        match mem::replace(&mut self.owed, ToShow::Nothing) {
+            ToShow::Enlisting {
+                actions,
+                notes,
+                ending,
+            } => self.queue_or_settle(actions, notes, ending),
+            ToShow::Queueing {
+                actions,
+                notes,
+                ending,
+            } => {
+                drop(notes);
+                self.settle(actions, ending)
+            }
+            owed => {
+                self.owed.set(owed);
+                Ok(())
+            }
+        }
     }
 
     /// The answer comes next; a listener whose set is empty leaves first.
-    #[tactic(auto, using(crate::proofs::CommitLaws::leaves, crate::proofs::CommitLaws::answers))]
     pub fn leave_or_answer(&mut self, ending: Ending)
         ensures { Leads self.old self.new (λ s. leaving_or_answering s (ending_of ending)) }
     {
@@ -106,7 +142,12 @@ impl Standing<'_> {
 fn some_listens(actions: &[Action]) -> bool
     ensures { result ≡ list_any is_listen actions.now }
 {
-    actions.iter().any(|action| listens(action))
+    for action in actions {
+        if listens(action) {
+            return true;
+        }
+    }
+    false
 }
 
 // This one does.

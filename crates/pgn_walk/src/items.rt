@@ -5,9 +5,8 @@ ghost use Rattle.pgn_language.specs.declared.scenario.Section.{Section};
 ghost use Rattle.pgn_base.specs.declared.format.Format.{Format};
 ghost use Rattle.pgn_journal.specs.declared.tx.Tx.{Tx};
 ghost use Rattle.pgn_model.specs.Walk.{Settings, Terms, IsAbortedBy, IsCommittedBy};
-ghost use Rattle.pgn_due.specs.Next.{IsWatch};
 ghost use Rattle.pgn_walk.specs.Standing.{known_at};
-ghost use Rattle.pgn_walk.specs.Steps.{Knows, Moves, Reaches, may_read};
+ghost use Rattle.pgn_walk.specs.Steps.{Knows, Moves, Reaches, is_leaving, may_read};
 
 use crate::same::{same_names, same_notes, same_refusal, same_reply};
 use crate::span::Span;
@@ -19,12 +18,11 @@ use pgn_language::Section;
 use pgn_ledger::{Ending, Ledger, ToShow, is_floor_for};
 use pgn_model::Item;
 use std::alloc::{AllocError, Global};
-use std::mem;
 
 // An item is judged, and where it is allowed the session stands behind it.
 impl Standing<'_> {
     /// A script line begins.
-    #[tactic(auto, using(crate::proofs::ItemLaws::line_owing, crate::proofs::ItemLaws::line_past, crate::proofs::ItemLaws::line_other, crate::proofs::ItemLaws::line_on))]
+    #[tactic(auto, using(crate::proofs::ItemLaws::line_past))]
     pub fn line(&mut self, alloc: Global, section: &Section, line: u32) -> Result<bool, AllocError>
         ensures { IfOk result (λ allowed. (settings : Settings) (journal : List Tx) → Moves (record { section = section.now; settings = settings }) journal self.old (Item.Line line) allowed self.new) }
     {
@@ -43,29 +41,22 @@ impl Standing<'_> {
     }
 
     /// The session becomes a listener.
-    #[tactic(auto, using(crate::proofs::ItemLaws::enlist_early, crate::proofs::ItemLaws::enlist_never, crate::proofs::ItemLaws::enlist_on))]
     pub fn enlist(&mut self, ledger: &Ledger, base: Xid, point: Xid) -> Result<bool, AllocError>
         ensures { IfOk result (λ allowed. (terms : Terms)
             → Moves terms ledger.now.journal.now self.old (Item.Enlist base point) allowed self.new) }
     {
+        let ToShow::Enlisting { .. } = &self.owed else {
+            return Ok(false);
+        };
         if !self.may_enlist(ledger, base, point) {
             return Ok(false);
         }
-        match mem::replace(&mut self.owed, ToShow::Nothing) {
-            ToShow::Enlisting {
-                actions,
-                notes,
-                ending,
-            } => {
-                self.stand_at(point)?;
-                self.queue_or_settle(actions, notes, ending)?;
-                Ok(true)
-            }
-            owed => {
-                drop(owed);
-                Ok(false)
-            }
-        }
+        self.watch.begin(&self.set, point)?;
+        self.mark = Some(point);
+        self.told = point;
+        self.greatest = point.get();
+        self.go_on_committing()?;
+        Ok(true)
     }
 
     // The point is not below the base, nor below what the session was told, nor below any earlier mark.
@@ -81,23 +72,7 @@ impl Standing<'_> {
             && point.get() <= ledger.next_xid()
     }
 
-    // The mark is here, and it is the greatest; everything before it is known to be finished.
-    fn stand_at(&mut self, point: Xid) -> Result<(), AllocError>
-        ensures stands { OnOk result
-            (self.new ≡ record self.old { mark = Some point; told = point; greatest = point; watch = self.new.watch }) }
-        ensures watches { OnOk result ((journal : List Tx) (db : ℕ) (before : List (List ℕ)) (was : Option ℕ)
-            → IsWatch journal db before was self.old.watch
-            → IsWatch journal db self.old.set.channels (Some point) self.new.watch) }
-    {
-        self.watch.begin(&self.set, point)?;
-        self.mark = Some(point);
-        self.told = point;
-        self.greatest = point.get();
-        Ok(())
-    }
-
     /// A transaction committed.
-    #[tactic(auto, using(crate::proofs::ItemLaws::publish_never, crate::proofs::ItemLaws::publish_early, crate::proofs::ItemLaws::publish_other, crate::proofs::ItemLaws::publish_on))]
     pub fn publish(
         &mut self,
         section: &Section,
@@ -106,30 +81,18 @@ impl Standing<'_> {
     ) -> Result<bool, AllocError>
         ensures { IfOk result (λ allowed. (settings : Settings) (notes : List Note) → Moves (record { section = section.now; settings = settings }) ledger.now.journal.now self.old (Item.Publish xid notes) allowed self.new) }
     {
-        match mem::replace(&mut self.owed, ToShow::Nothing) {
-            ToShow::Queueing {
-                actions,
-                notes,
-                ending,
-            } => {
-                if !self.is_behind(xid)
-                    || !is_committed_by(section, ledger, notes.as_slice(), xid)
-                {
-                    drop(actions);
-                    drop(notes);
-                    drop(ending);
-                    return Ok(false);
-                }
-                drop(notes);
-                self.told = Xid::new(xid.get() + 1);
-                self.settle(actions, ending)?;
-                Ok(true)
-            }
-            owed => {
-                drop(owed);
-                Ok(false)
-            }
+        let ToShow::Queueing { notes, .. } = &self.owed else {
+            return Ok(false);
+        };
+        if !self.is_behind(xid) {
+            return Ok(false);
         }
+        if !is_committed_by(section, ledger, notes.as_slice(), xid) {
+            return Ok(false);
+        }
+        self.told = Xid::new(xid.get() + 1);
+        self.go_on_committing()?;
+        Ok(true)
     }
 
     // A number is not below what the session was told, nor below its mark.
@@ -141,135 +104,110 @@ impl Standing<'_> {
     }
 
     /// A transaction met a full queue.
-    #[tactic(auto, using(crate::proofs::ItemLaws::full_never, crate::proofs::ItemLaws::full_early, crate::proofs::ItemLaws::full_other, crate::proofs::ItemLaws::full_floor, crate::proofs::ItemLaws::full_on))]
     pub fn meet_full(&mut self, section: &Section, ledger: &Ledger, full: &Full) -> bool
         ensures { (settings : Settings) (notes : List Note) → Moves (record { section = section.now; settings = settings }) ledger.now.journal.now self.old (Item.QueueFull full.now notes) result self.new }
     {
-        match mem::replace(&mut self.owed, ToShow::Nothing) {
-            ToShow::Queueing {
-                actions,
-                notes,
-                ending,
-            } => {
-                drop(actions);
-                drop(ending);
-                if !self.is_behind(full.xid)
-                    || !is_aborted_by(section, ledger, notes.as_slice(), full)
-                    || !is_floor_for(&section.no, &self.mark, &full.floor_mark, &full.holder)
-                {
-                    drop(notes);
-                    return false;
-                }
-                drop(notes);
-                self.told = Xid::new(full.xid.get() + 1);
-                self.leave_or_answer(Ending::Refused {
-                    refusal: Refusal::QueueFull,
-                });
-                true
-            }
-            owed => {
-                drop(owed);
-                false
-            }
+        let ToShow::Queueing { notes, .. } = &self.owed else {
+            return false;
+        };
+        if !self.is_behind(full.xid) {
+            return false;
         }
+        if !is_aborted_by(section, ledger, notes.as_slice(), full) {
+            return false;
+        }
+        if !is_floor_for(&section.no, &self.mark, &full.floor_mark, &full.holder) {
+            return false;
+        }
+        self.told = Xid::new(full.xid.get() + 1);
+        self.leave_or_answer(Ending::Refused {
+            refusal: Refusal::QueueFull,
+        });
+        true
     }
 
     /// The session stopped being a listener.
-    #[tactic(auto, using(crate::proofs::AnswerLaws::leave_never, crate::proofs::AnswerLaws::leave_on, crate::proofs::AnswerLaws::leave_quit))]
     pub fn leave(&mut self) -> bool
         ensures { (terms : Terms) (journal : List Tx)
             → Moves terms journal self.old Item.Leave result self.new }
     {
-        match mem::replace(&mut self.owed, ToShow::Nothing) {
-            ToShow::Leaving { ending } => {
-                self.owed.set(ToShow::Answering { ending });
-                self.mark = None;
-                true
-            }
-            ToShow::Quitting => {
-                self.mark = None;
-                true
-            }
-            owed => {
-                drop(owed);
-                false
-            }
+        let due = self.is_leaving();
+        self.mark = None;
+        self.go_on();
+        due
+    }
+
+    // This is what comes next.
+    fn is_leaving(&self) -> bool
+        ensures { result ≡ is_leaving self.now.owed }
+    {
+        match &self.owed {
+            ToShow::Leaving { .. } | ToShow::Quitting => true,
+            _ => false,
         }
     }
 
     /// A tag.
-    #[tactic(auto, using(crate::proofs::AnswerLaws::reply_never))]
     pub fn reply(&mut self, tag: &Tag, warning: &Option<Warning>) -> bool
         ensures { (terms : Terms) (journal : List Tx)
             → Moves terms journal self.old (Item.Reply tag.now warning.now) result self.new }
     {
-        match mem::replace(&mut self.owed, ToShow::Nothing) {
-            ToShow::Answering { ending } => is_reply(&ending, tag, warning),
-            owed => {
-                drop(owed);
-                false
-            }
-        }
+        let ToShow::Answering { ending } = &self.owed else {
+            return false;
+        };
+        let due = is_reply(ending, tag, warning);
+        self.owed.set(ToShow::Nothing);
+        due
     }
 
     /// A refusal.
-    #[tactic(auto, using(crate::proofs::AnswerLaws::refuse_never))]
     pub fn refuse(&mut self, refusal: &Refusal) -> bool
         ensures { (terms : Terms) (journal : List Tx)
             → Moves terms journal self.old (Item.Refuse refusal.now) result self.new }
     {
-        match mem::replace(&mut self.owed, ToShow::Nothing) {
-            ToShow::Answering { ending } => is_refusal(&ending, refusal),
-            owed => {
-                drop(owed);
-                false
-            }
-        }
+        let ToShow::Answering { ending } = &self.owed else {
+            return false;
+        };
+        let due = is_refusal(ending, refusal);
+        self.owed.set(ToShow::Nothing);
+        due
     }
 
     /// Rows of channels.
-    #[tactic(auto, using(crate::proofs::AnswerLaws::rows_never, crate::proofs::AnswerLaws::rows_by))]
     pub fn rows(&mut self, names: &[Name]) -> bool
         ensures { (terms : Terms) (journal : List Tx)
             → Moves terms journal self.old (Item.Channels names.now) result self.new }
     {
-        match mem::replace(&mut self.owed, ToShow::Nothing) {
-            ToShow::Listing { names: due, ending } => {
-                self.owed.set(ToShow::Answering { ending });
-                same_names(names, due.as_slice())
-            }
-            owed => {
-                drop(owed);
-                false
-            }
-        }
+        let ToShow::Listing { names: due, .. } = &self.owed else {
+            return false;
+        };
+        let same = same_names(names, due.as_slice());
+        self.go_on();
+        same
     }
 
     /// The row of the queue's usage.
-    #[tactic(auto, using(crate::proofs::AnswerLaws::measure_never, crate::proofs::AnswerLaws::measure_early, crate::proofs::AnswerLaws::measure_other, crate::proofs::AnswerLaws::measure_floor, crate::proofs::AnswerLaws::measure_on))]
     pub fn measure(&mut self, section: &Section, limit: u32, ledger: &Ledger, usage: &Usage) -> bool
         ensures { (patience : ℕ) → Moves (record { section = section.now; settings = record { format = ledger.now.format; limit = limit; patience = patience } }) ledger.now.journal.now self.old (Item.Used usage.now) result self.new }
     {
-        if !self.is_behind(usage.at)
-            || !ledger.shows_usage(limit, usage)
-            || !is_floor_for(&section.no, &self.mark, &usage.floor_mark, &usage.holder)
-        {
+        let ToShow::Measuring { .. } = &self.owed else {
+            return false;
+        };
+        if !self.is_behind(usage.at) {
             return false;
         }
-        match mem::replace(&mut self.owed, ToShow::Nothing) {
-            ToShow::Measuring { ending } => {
-                self.owed.set(ToShow::Answering { ending });
-                true
-            }
-            owed => {
-                drop(owed);
-                false
-            }
+        if !ledger.shows_usage(limit, usage) {
+            return false;
         }
+        if !is_floor_for(&section.no, &self.mark, &usage.floor_mark, &usage.holder) {
+            return false;
+        }
+        self.go_on();
+        true
     }
 
     /// A flag was raised.
-    #[tactic(auto, using(crate::proofs::FlagLaws::raise_never, crate::proofs::FlagLaws::raise_other, crate::proofs::FlagLaws::raise_on))]
+    #[tactic(auto, using(crate::proofs::FlagLaws::raise_other))]
     pub fn raise(&mut self, value: Xid) -> Result<bool, AllocError>
         ensures { IfOk result (λ allowed. (terms : Terms) (journal : List Tx)
             → Moves terms journal self.old (Item.Raise value) allowed self.new) }
@@ -286,7 +224,6 @@ impl Standing<'_> {
     }
 
     /// A flag was found.
-    #[tactic(auto, using(crate::proofs::FlagLaws::find_never, crate::proofs::FlagLaws::find_small, crate::proofs::FlagLaws::find_on))]
     pub fn find(&mut self, value: Xid) -> Result<bool, AllocError>
         ensures { IfOk result (λ allowed. (terms : Terms) (journal : List Tx)
             → Moves terms journal self.old (Item.Found value) allowed self.new) }
@@ -346,14 +283,16 @@ impl Standing<'_> {
     }
 
     /// A flag was not found.
-    #[tactic(auto, using(crate::proofs::FlagLaws::time_never, crate::proofs::FlagLaws::time_other, crate::proofs::FlagLaws::time_known, crate::proofs::FlagLaws::time_on))]
     pub fn time_out(&mut self, patience: u64, looks: u64) -> bool
         ensures { (section : Section) (format : Format) (limit : ℕ) (journal : List Tx) → Moves (record { section = section; settings = record { format = format; limit = limit; patience = patience } }) journal self.old (Item.TimedOut looks) result self.new }
     {
         let ToShow::Awaiting { flag } = self.owed else {
             return false;
         };
-        if looks != patience || self.is_known(flag) {
+        if looks != patience {
+            return false;
+        }
+        if self.is_known(flag) {
             return false;
         }
         self.owed.set(ToShow::Nothing);
@@ -361,7 +300,6 @@ impl Standing<'_> {
     }
 
     /// A read.
-    #[tactic(auto, using(crate::proofs::ReadLaws::read_never, crate::proofs::ReadLaws::read_far, crate::proofs::ReadLaws::read_other, crate::proofs::ReadLaws::read_on))]
     pub fn read(
         &mut self,
         section: &Section,
@@ -373,7 +311,10 @@ impl Standing<'_> {
             → Moves (record { section = section.now; settings = settings }) ledger.now.journal.now self.old
             (Item.Read span.now.from span.now.to got.now) allowed self.new) }
     {
-        if !self.may_read(section) || !self.reaches(ledger, span) {
+        if !self.may_read(section) {
+            return Ok(false);
+        }
+        if !self.reaches(ledger, span) {
             return Ok(false);
         }
         if !self.watch.takes(span.to, got.as_slice())? {

@@ -1,12 +1,11 @@
-ghost use Rattle.std.specs.Prelude.{◌≡◌, ◌≢◌, OnOk, IfOk, length};
+ghost use Rattle.std.specs.Prelude.{◌≡◌, OnOk, length};
 ghost use Rattle.pgn_answers.specs.Answers.{answer};
 ghost use Rattle.pgn_answers.specs.Savepoints.{live_names};
 ghost use Rattle.pgn_model.specs.Walk.{at_act, at_outcome, quitting};
 ghost use Rattle.pgn_walk.specs.Steps.{BeginsFrom, IsGivenBy};
 
 use crate::standing::Standing;
-use pgn_answers::BlockState;
-use pgn_base::{Command, Copied, ListenSet, Names, Tag};
+use pgn_base::{Command, Copied, ListenSet, Tag};
 use pgn_block::{Effect, Kind};
 use pgn_language::Act;
 use pgn_ledger::{Ending, ToShow};
@@ -16,7 +15,6 @@ use std::mem;
 // A line of the script begins.
 impl Standing<'_> {
     /// What it does.
-    #[tactic(auto, using(crate::proofs::LineLaws::begins_run, crate::proofs::LineLaws::begins_signal, crate::proofs::LineLaws::begins_await, crate::proofs::LineLaws::begins_quit))]
     pub fn begin(&mut self, alloc: Global, act: &Act) -> Result<(), AllocError>
         ensures { OnOk result (BeginsFrom self.old self.new (λ s. at_act s act.now)) }
     {
@@ -38,7 +36,6 @@ impl Standing<'_> {
     }
 
     // The session quits: its block and its set end, and a listener leaves.
-    #[tactic(auto, using(crate::proofs::LineLaws::quits_listening, crate::proofs::LineLaws::quits_idle))]
     fn quit(&mut self, alloc: Global)
         ensures { BeginsFrom self.old self.new quitting }
     {
@@ -52,20 +49,19 @@ impl Standing<'_> {
     }
 
     // A command begins.
-    #[tactic(auto, using(crate::proofs::LineLaws::runs))]
     fn run(&mut self, alloc: Global, command: &Command) -> Result<(), AllocError>
         ensures { OnOk result (BeginsFrom self.old self.new
             (λ s. at_outcome s command.now (answer s.block (live_names s.changes) s.set command.now))) }
     {
-        let rows = rows_for(alloc, command, self.block.state(), &self.set)?;
         let effect = self.block.step(command.copy(alloc)?)?;
-        self.give(effect, rows)
+        self.give(alloc, effect)
     }
 
     // What the block gave for it is to be shown.
-    #[tactic(auto, using(crate::proofs::LineLaws::gives_nothing, crate::proofs::LineLaws::gives_reply, crate::proofs::LineLaws::gives_refusal, crate::proofs::LineLaws::gives_rows, crate::proofs::LineLaws::gives_usage, crate::proofs::LineLaws::gives_commit))]
-    fn give(&mut self, effect: Effect, rows: Rows) -> Result<(), AllocError>
-        ensures { OnOk result (IsGivenBy self.old effect rows.names rows.count self.new) }
+    #[tactic(auto, using(crate::proofs::LineLaws::gives_nothing))]
+    fn give(&mut self, alloc: Global, effect: Effect) -> Result<(), AllocError>
+        ensures { OnOk result (IsGivenBy self.old effect
+            self.old.set.channels (length self.old.set.channels) self.new) }
     {
         match effect {
             Effect::Nothing => Ok(()),
@@ -77,23 +73,7 @@ impl Standing<'_> {
                 self.answer(Ending::Refused { refusal });
                 Ok(())
             }
-            Effect::Query {
-                kind: Kind::ListeningChannels,
-            } => {
-                self.list(rows);
-                Ok(())
-            }
-            Effect::Query {
-                kind: Kind::QueueUsage,
-            } => {
-                self.owed.set(ToShow::Measuring {
-                    ending: Ending::Replied {
-                        tag: Tag::Select(1),
-                        warning: None,
-                    },
-                });
-                Ok(())
-            }
+            Effect::Query { kind } => self.ask(alloc, kind),
             Effect::Commit {
                 actions,
                 notes,
@@ -109,12 +89,34 @@ impl Standing<'_> {
         self.owed.set(ToShow::Answering { ending });
     }
 
-    // Rows are to be shown, and then their number.
-    fn list(&mut self, rows: Rows)
-        ensures { self.new ≡
-            record self.old { owed = ToShow.Listing rows.names (Ending.Replied (Tag.Select rows.count) None) } }
+    // What is asked for is to be shown.
+    fn ask(&mut self, alloc: Global, kind: Kind) -> Result<(), AllocError>
+        ensures { OnOk result (IsGivenBy self.old (Effect.Query kind)
+            self.old.set.channels (length self.old.set.channels) self.new) }
     {
-        let Rows { names, count } = rows;
+        match kind {
+            Kind::ListeningChannels => self.list(alloc),
+            Kind::QueueUsage => {
+                self.owed.set(ToShow::Measuring {
+                    ending: Ending::Replied {
+                        tag: Tag::Select(1),
+                        warning: None,
+                    },
+                });
+                Ok(())
+            }
+        }
+    }
+
+    // The channels are to be shown, and then their number. More than a tag can count have no place in memory.
+    fn list(&mut self, alloc: Global) -> Result<(), AllocError>
+        ensures { OnOk result (self.new ≡ record self.old { owed = ToShow.Listing self.old.set.channels (Ending.Replied (Tag.Select (length self.old.set.channels)) None) }) }
+    {
+        let names = self.set.names(alloc)?;
+        let Ok(count) = u32::try_from(names.as_slice().len()) else {
+            drop(names);
+            return Err(AllocError);
+        };
         self.owed.set(ToShow::Listing {
             names,
             ending: Ending::Replied {
@@ -122,38 +124,6 @@ impl Standing<'_> {
                 warning: None,
             },
         });
+        Ok(())
     }
-}
-
-// The channels that a command asks for, and how many they are.
-#[derive(Drop)]
-struct Rows {
-    names: Names,
-    count: u32,
-}
-
-// The rows that a command may ask for, which it does not in a block that has failed. More than a tag can count have no place in
-// memory.
-fn rows_for(
-    alloc: Global,
-    command: &Command,
-    state: BlockState,
-    set: &ListenSet,
-) -> Result<Rows, AllocError>
-    ensures names { IfOk result (λ rows. command.now ≡ Command.ListeningChannels
-        → state ≢ BlockState.Failed → rows.names ≡ set.now.channels) }
-    ensures count { IfOk result (λ rows. rows.count ≡ length rows.names) }
-{
-    let (Command::ListeningChannels, BlockState::Idle | BlockState::InBlock) = (command, state)
-    else {
-        return Ok(Rows {
-            names: Names::new(alloc),
-            count: 0,
-        });
-    };
-    let names = set.names(alloc)?;
-    let Ok(count) = u32::try_from(names.as_slice().len()) else {
-        return Err(AllocError);
-    };
-    Ok(Rows { names, count })
 }

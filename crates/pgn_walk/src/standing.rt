@@ -2,7 +2,7 @@ ghost use Rattle.std.specs.Prelude.{◌≡◌, ◌↔◌, ◌&&◌, true, is_som
 ghost use Rattle.pgn_reading.specs.Completed.{ready};
 ghost use Rattle.pgn_language.specs.declared.scenario.Section.{Section};
 ghost use Rattle.pgn_model.specs.Walk.{is_empty_set, start};
-ghost use Rattle.pgn_walk.specs.Standing.{Holds, Leads, behind_rows, has_no_rows};
+ghost use Rattle.pgn_walk.specs.Standing.{Holds, Leads, behind, has_no_rows};
 
 use indexmap::IndexMap;
 use pgn_base::{DbOid, FIRST_XID, ListenSet, Seed, Xid};
@@ -33,7 +33,6 @@ pub struct Standing<'a> {
 
 impl<'a> Standing<'a> {
     /// Before the first item, in this database. Hashes are made with the seed of what the journal sent.
-    #[tactic(auto, using(crate::proofs::StandingLaws::holds_first))]
     pub fn new(alloc: Global, feed: &'a Feed<'a>, db: DbOid) -> Standing<'a>
         ensures { (section : Section) → section.db ≡ db
             → Holds section feed.now.sends.journal.now result (start section) }
@@ -53,12 +52,11 @@ impl<'a> Standing<'a> {
     }
 
     /// Takes in the rows of no channel, where they come next.
-    #[tactic(auto, using(crate::proofs::ReadyLaws::ready_with, crate::proofs::ReadyLaws::ready_without))]
     pub fn ready(&mut self)
         ensures { Leads self.old self.new ready }
     {
         if self.has_no_rows() {
-            self.skip_rows();
+            self.go_on();
         }
     }
 
@@ -72,12 +70,18 @@ impl<'a> Standing<'a> {
         }
     }
 
-    // The answer comes behind rows.
-    fn skip_rows(&mut self)
-        ensures { self.new ≡ record self.old { owed = behind_rows self.old.owed } }
+    /// What is owed was shown, rows or that a listener leaves: what comes behind it is to be shown.
+    pub(crate) fn go_on(&mut self)
+        ensures { self.new ≡ record self.old { owed = behind self.old.owed } }
     {
         match mem::replace(&mut self.owed, ToShow::Nothing) {
-            ToShow::Listing { ending, .. } => self.owed.set(ToShow::Answering { ending }),
+            ToShow::Listing { names, ending } => {
+                drop(names);
+                self.owed.set(ToShow::Answering { ending });
+            }
+            ToShow::Measuring { ending } => self.owed.set(ToShow::Answering { ending }),
+            ToShow::Leaving { ending } => self.owed.set(ToShow::Answering { ending }),
+            ToShow::Quitting => {}
             owed => self.owed.set(owed),
         }
     }

@@ -1,17 +1,21 @@
-use Rattle.std.proofs.Common.{Some, sym, ap, ◌∙◌, subst}
-use Rattle.pgn_model.specs.Walk.{queueing_or_settled}
-use Rattle.pgn_walk.specs.declared.standing.Standing.{Standing}
-use Rattle.pgn_ledger.specs.declared.to_show.ToShow.{ToShow}
-use Rattle.pgn_ledger.specs.ToShow.{ending_of}
-use Rattle.pgn_walk.specs.Standing.{Leads}
-use Rattle.pgn_walk.proofs.ItemLaws.{enlist_on}
+use Rattle.std.proofs.Common.{ℕ, Some, subst}
+use Rattle.pgn_ledger.specs.declared.to_show.ToShow.TheVariants as show
+use Rattle.pgn_walk.specs.Standing.{GoesOn}
+use Rattle.pgn_walk.proofs.ItemLaws.{enlist_early, enlist_never, enlist_on}
 use Rattle.pgn_walk.proofs.standing.Standing.enlist.Goals as goal
 
-pub returns-in_ok-queue_or_settle-in-Enlisting : goal.returns-in_ok-queue_or_settle-in-Enlisting
-returns-in_ok-queue_or_settle-in-Enlisting c = λ terms.
+pub returns-in_default : goal.returns-in_default
+returns-in_default c = λ terms. enlist_never terms c.args.ledger.now.journal.now c.args.self.now c.args.self.now c.args.base c.args.point c.in_default.not-Enlisting
+
+pub returns-then-not-may_enlist : goal.returns-then-not-may_enlist
+returns-then-not-may_enlist c = λ terms.
+    enlist_early terms c.args.ledger.now.journal.now c.args.self.now c.args.self.now c.args.base c.args.point c.may_enlist.result c.may_enlist.ensures.value c.if-not-may_enlist.true
+
+pub returns : goal.returns
+returns c = λ terms.
     let old = c.args.self.now in
-    let watch = c.stand_at.new.self.watch in
-    let stood = c.in_ok-stand_at-in-Enlisting.ensures.stands ∙ ap (λ (left : ToShow). let at : Standing = record old { owed = left; mark = Some c.args.point; told = c.args.point; greatest = c.args.point; watch = watch } in at) c.replace.ensures.after in
-    enlist_on terms c.args.ledger.now.journal.now old c.queue_or_settle.new.self watch c.args.base c.args.point c.may_enlist.result c.in-Enlisting.actions c.in-Enlisting.notes c.in-Enlisting.ending c.may_enlist.ensures.value
-    c.if-not-may_enlist.false c.may_enlist.ensures.first (sym c.replace.ensures.value ∙ c.in-Enlisting.is) c.in_ok-stand_at-in-Enlisting.ensures.watches
-    (subst (λ (at : Standing). Leads at c.queue_or_settle.new.self (λ s. queueing_or_settled s c.in-Enlisting.actions c.in-Enlisting.notes (ending_of c.in-Enlisting.ending))) stood c.in_ok-queue_or_settle-in-Enlisting.ensures)
+    let point : ℕ = c.args.point in
+    let watch = c.begin.new.self in
+    enlist_on terms c.args.ledger.now.journal.now old c.go_on_committing.new.self watch c.args.base point c.may_enlist.result _ _ _ c.may_enlist.ensures.value c.if-not-may_enlist.false c.may_enlist.ensures.first c.in-Enlisting.is
+    c.in_ok-begin.ensures
+    (subst (λ (n : ℕ). GoesOn old.owed (record old { owed = show.Nothing; mark = Some point; told = point; greatest = n; watch = watch }) c.go_on_committing.new.self) c.get-self.ensures.value c.in_ok-go_on_committing.ensures)
