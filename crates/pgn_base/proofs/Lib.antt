@@ -1,3 +1,4 @@
 pub mod ListeningLaws
 pub mod BitsLaws
 pub mod OutsideLaws
+mod FaultLaws

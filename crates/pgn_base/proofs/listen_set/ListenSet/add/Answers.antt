@@ -1,4 +1,4 @@
-use Rattle.std.proofs.Common.{◌≡◌, ◌+◌, ◌∙◌, ap, sym, subst, Option, Some, List, ℕ, [], ◌∷◌, ◌++◌, false, arith, get_or, length, length-append}
+use Rattle.std.proofs.Common.{◌≡◌, ◌+◌, ◌-◌, ◌<◌, ◌≤◌, ℕ, ◌∙◌, ap, sym, subst, Option, Some, List, [], ◌∷◌, ◌++◌, false, arith, get_or, length, length-append}
 use Rattle.pgn_base.specs.Names.{has_name}
 use Rattle.pgn_base.specs.Listening.{Listening, AreThere, AreOnce, listed}
 use Rattle.pgn_base.specs.Interest.{channel_bit, with_bit, AreBits}
@@ -41,3 +41,28 @@ returns-clause-channels c =
     let places = c.self.inside.places.items in
     let longer : c.push.new.self.items ≡ places ++ Some c.args.name ∷ [] = rw c.unwrap-2.ensures at c.push.ensures.items in
     ap listed longer ∙ listed-append places (Some c.args.name ∷ []) ∙ ap (λ (set : Listening). set.channels ++ c.args.name ∷ []) c.self.view_is
+
+room-less : (a b : ℕ) → a ≡ b → 1 ≤ b → (a - 1) + 1 ≡ b
+room-less a b e some = omega arith
+
+room-some : (a b : ℕ) → a ≡ b → 1 ≤ b → 1 ≤ a
+room-some a b e some = omega arith
+
+spare-some : (a b : ℕ) → 1 ≤ a → a ≤ b → 0 < b
+spare-some a b some le = omega arith
+
+pub returns-clause-room : goal.returns-clause-room
+returns-clause-room c = room-less _ _ (ap (λ (set : Listening). set.room) c.self.view_is) c.requires.room
+
+pub overflow_sub-self : goal.overflow_sub-self
+overflow_sub-self c = room-some _ _ (ap (λ (set : Listening). set.room) c.self.view_is) c.requires.room
+
+pub unwrap-requires : goal.unwrap-requires
+unwrap-requires c =
+    let some : 1 ≤ c.self.inside.room = room-some _ _ (ap (λ (set : Listening). set.room) c.self.view_is) c.requires.room in
+    c.insert.ensures.succeeds (spare-some _ _ some c.self.invariant.0.indexed)
+
+pub unwrap-requires-2 : goal.unwrap-requires-2
+unwrap-requires-2 c =
+    let some : 1 ≤ c.self.inside.room = room-some _ _ (ap (λ (set : Listening). set.room) c.self.view_is) c.requires.room in
+    c.push.ensures.succeeds (omega (arith, some, c.self.invariant.0.fits, c.self.inside.places.ok.0))

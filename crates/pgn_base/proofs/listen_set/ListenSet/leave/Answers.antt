@@ -1,6 +1,6 @@
-use Rattle.std.proofs.Common.{◌≡◌, ℕ, List, ◌∙◌, ap, sym, subst, not, is_some, true, false, Some, None, filter, get_or, set, bytes_eq, arith}
+use Rattle.std.proofs.Common.{◌≡◌, ℕ, ◌≤◌, List, Option, ◌∙◌, ap, sym, subst, not, is_some, true, false, Some, None, filter, get_or, set, bytes_eq, arith}
 use Rattle.pgn_base.specs.Names.{has_name}
-use Rattle.pgn_base.specs.Listening.{Listening, place_from, listed}
+use Rattle.pgn_base.specs.Listening.{Listening, IsIndexed, AreThere, place_from, listed}
 use Rattle.pgn_base.specs.Interest.{channel_bit, with_bit, AreBits}
 use Rattle.pgn_base.proofs.ListeningLaws.{place-within, indexed-left, listed-left, is_some-place, none-less, has-placed}
 use Rattle.pgn_base.proofs.BitsLaws.{with_bit-has, bit-within}
@@ -47,3 +47,24 @@ returns-in_default-clause-channels c =
     let absent : has_name (listed c.self.inside.places.items) c.args.name.now ≡ false = sym (is_some-place 0 c.args.name.now c.self.inside.places.items) ∙ ap is_some (sym (c.self.invariant.0.there.found c.args.name.now) ∙ sym none) in
     sym (none-less c.args.name.now (listed c.self.inside.places.items) absent)
     ∙ ap (λ (set : Listening). filter (λ other. not (bytes_eq c.args.name.now other)) set.channels) c.self.view_is
+
+-- the same entries, and no less room
+indexed-same : (places : List (Option (List ℕ))) (capacity : ℕ) (was now : List (List ℕ × ℕ)) (spare spare' room : ℕ)
+    → IsIndexed places capacity was spare room → now ≡ was → spare ≤ spare' → IsIndexed places capacity now spare' room
+indexed-same places capacity was now spare spare' room h same le =
+    record {
+      there = subst (λ (entries : List (List ℕ × ℕ)). AreThere places entries) (sym same) h.there;
+      once = h.once;
+      fits = h.fits;
+      indexed = omega (arith, h.indexed, le);
+    }
+
+pub invariant_of-self-in_default : goal.invariant_of-self-in_default
+invariant_of-self-in_default c =
+    (indexed-same _ _ _ _ _ _ _ c.self.invariant.0 c.in_default.ensures.unchanged c.in_default.ensures.room.0, c.self.invariant.1)
+
+pub returns-in-Some-clause-room : goal.returns-in-Some-clause-room
+returns-in-Some-clause-room c = ap (λ (set : Listening). set.room) c.self.view_is
+
+pub returns-in_default-clause-room : goal.returns-in_default-clause-room
+returns-in_default-clause-room c = ap (λ (set : Listening). set.room) c.self.view_is

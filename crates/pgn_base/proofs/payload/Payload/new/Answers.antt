@@ -1,0 +1,35 @@
+use Rattle.std.proofs.Common.{◌≡◌, ℕ, List, sym, subst}
+use Rattle.pgn_base.specs.Texts.{IsPayload}
+use Rattle.pgn_base.specs.declared.payload.PayloadFault.TheVariants.{TooLong, Nul, Memory}
+use Rattle.pgn_base.proofs.FaultLaws.{fault-held, held-ok, held-not, fault-none, fault-other, ok-fault}
+use Rattle.pgn_base.proofs.payload.Payload.new.Goals as goal
+
+pub invariant_of-result : goal.invariant_of-result
+invariant_of-result c = subst (λ (bytes : List ℕ). IsPayload bytes) (sym c.in-Ok.ensures.ok) c.in_ok-test.ensures.ok
+
+pub returns-in_err-test : goal.returns-in_err-test
+returns-in_err-test c =
+    record {
+      ok = held-ok _ _ c.from_residual.ensures.0;
+      too_long = fault-held _ _ TooLong c.from_residual.ensures.1 c.in_err-test.ensures.too_long;
+      nul = fault-held _ _ Nul c.from_residual.ensures.1 c.in_err-test.ensures.nul;
+      memory = λ q. absurd (held-not _ _ Memory c.from_residual.ensures.1 c.in_err-test.ensures.memory q);
+    }
+
+pub returns-in-Ok : goal.returns-in-Ok
+returns-in-Ok c =
+    record {
+      ok = c.in-Ok.ensures.ok;
+      too_long = fault-none _ _ TooLong c.in_ok-test.ensures.too_long;
+      nul = fault-none _ _ Nul c.in_ok-test.ensures.nul;
+      memory = λ q. absurd (ok-fault _ Memory q);
+    }
+
+pub returns-in-Err : goal.returns-in-Err
+returns-in-Err c =
+    record {
+      ok = tt;
+      too_long = fault-other _ Memory TooLong (λ q. cc) c.in_ok-test.ensures.too_long;
+      nul = fault-other _ Memory Nul (λ q. cc) c.in_ok-test.ensures.nul;
+      memory = λ q. c.in-Err.ensures.memory;
+    }
