@@ -4,14 +4,18 @@ use Rattle.pgn_base.specs.declared.payload.PayloadFault.TheVariants.{TooLong, Nu
 use Rattle.pgn_base.proofs.FaultLaws.{fault-differs, fault-here, fault-passed, fault-not, ok-fault}
 use Rattle.pgn_base.proofs.payload.test.Goals as goal
 
+-- faults that differ
+apart : (TooLong ≡ Nul → ⊥) × (TooLong ≡ Memory → ⊥) × (Nul ≡ TooLong → ⊥) × (Nul ≡ Memory → ⊥)
+apart = (λ q. cc, λ q. cc, λ q. cc, λ q. cc)
+
 pub returns-then-text-gt-PAYLOAD_BYTES_MAX : goal.returns-then-text-gt-PAYLOAD_BYTES_MAX
 returns-then-text-gt-PAYLOAD_BYTES_MAX c =
     let more = c.if-text-gt-PAYLOAD_BYTES_MAX.true in
     record {
       ok = tt;
       too_long = fault-here TooLong more;
-      nul = fault-differs TooLong Nul (λ q. cc) (λ h. omega (arith, h.0, more));
-      memory = fault-not TooLong Memory (λ q. cc);
+      nul = fault-differs TooLong Nul apart.0 (λ h. omega (arith, h.0, more));
+      memory = fault-not TooLong Memory apart.1;
     }
 
 pub returns-then-has_nul : goal.returns-then-has_nul
@@ -19,9 +23,9 @@ returns-then-has_nul c =
     let within = c.if-text-gt-PAYLOAD_BYTES_MAX.false in
     record {
       ok = tt;
-      too_long = fault-differs Nul TooLong (λ q. cc) (λ more. omega (arith, more, within));
+      too_long = fault-differs Nul TooLong apart.2 (λ more. omega (arith, more, within));
       nul = fault-here Nul (within, rw c.as_bytes.ensures.value at (c.has_nul.ensures.0 c.if-has_nul.true));
-      memory = fault-not Nul Memory (λ q. cc);
+      memory = fault-not Nul Memory apart.3;
     }
 
 pub returns : goal.returns

@@ -4,6 +4,10 @@ use Rattle.pgn_base.specs.declared.name.NameFault.TheVariants.{Empty, TooLong, N
 use Rattle.pgn_base.proofs.FaultLaws.{fault-same, fault-moved, fault-none, fault-other, ok-fault}
 use Rattle.pgn_base.proofs.name.Name.from_string.Goals as goal
 
+-- faults that differ
+apart : (Memory ≡ Empty → ⊥) × (Memory ≡ TooLong → ⊥) × (Memory ≡ Nul → ⊥)
+apart = (λ q. cc, λ q. cc, λ q. cc)
+
 pub invariant_of-result : goal.invariant_of-result
 invariant_of-result c = subst (λ (bytes : List ℕ). IsName bytes) (c.as_str.ensures.value ∙ sym c.in-Ok.ensures.ok) c.in_default.ensures.ok
 
@@ -31,8 +35,8 @@ pub returns-in-Err-from_string : goal.returns-in-Err-from_string
 returns-in-Err-from_string c =
     record {
       ok = tt;
-      empty = fault-other _ Memory Empty (λ q. cc) (rw c.as_str.ensures.value at c.in_default.ensures.empty);
-      too_long = fault-other _ Memory TooLong (λ q. cc) (rw c.as_str.ensures.value at c.in_default.ensures.too_long);
-      nul = fault-other _ Memory Nul (λ q. cc) (rw c.as_str.ensures.value at c.in_default.ensures.nul);
+      empty = fault-other _ Memory Empty apart.0 (rw c.as_str.ensures.value at c.in_default.ensures.empty);
+      too_long = fault-other _ Memory TooLong apart.1 (rw c.as_str.ensures.value at c.in_default.ensures.too_long);
+      nul = fault-other _ Memory Nul apart.2 (rw c.as_str.ensures.value at c.in_default.ensures.nul);
       memory = λ q. c.in-Err-from_string.ensures.memory;
     }

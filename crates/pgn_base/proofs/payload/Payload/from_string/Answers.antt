@@ -4,6 +4,10 @@ use Rattle.pgn_base.specs.declared.payload.PayloadFault.TheVariants.{TooLong, Nu
 use Rattle.pgn_base.proofs.FaultLaws.{fault-same, fault-moved, fault-none, fault-other, ok-fault}
 use Rattle.pgn_base.proofs.payload.Payload.from_string.Goals as goal
 
+-- faults that differ
+apart : (Memory ≡ TooLong → ⊥) × (Memory ≡ Nul → ⊥)
+apart = (λ q. cc, λ q. cc)
+
 pub invariant_of-result : goal.invariant_of-result
 invariant_of-result c = subst (λ (bytes : List ℕ). IsPayload bytes) (c.as_str.ensures.value ∙ sym c.in-Ok.ensures.ok) c.in_default.ensures.ok
 
@@ -29,7 +33,7 @@ pub returns-in-Err-from_string : goal.returns-in-Err-from_string
 returns-in-Err-from_string c =
     record {
       ok = tt;
-      too_long = fault-other _ Memory TooLong (λ q. cc) (rw c.as_str.ensures.value at c.in_default.ensures.too_long);
-      nul = fault-other _ Memory Nul (λ q. cc) (rw c.as_str.ensures.value at c.in_default.ensures.nul);
+      too_long = fault-other _ Memory TooLong apart.0 (rw c.as_str.ensures.value at c.in_default.ensures.too_long);
+      nul = fault-other _ Memory Nul apart.1 (rw c.as_str.ensures.value at c.in_default.ensures.nul);
       memory = λ q. c.in-Err-from_string.ensures.memory;
     }

@@ -4,6 +4,10 @@ use Rattle.pgn_base.specs.declared.payload.PayloadFault.TheVariants.{TooLong, Nu
 use Rattle.pgn_base.proofs.FaultLaws.{fault-held, held-ok, held-not, fault-none, fault-other, ok-fault}
 use Rattle.pgn_base.proofs.payload.Payload.new.Goals as goal
 
+-- faults that differ
+apart : (Memory ≡ TooLong → ⊥) × (Memory ≡ Nul → ⊥)
+apart = (λ q. cc, λ q. cc)
+
 pub invariant_of-result : goal.invariant_of-result
 invariant_of-result c = subst (λ (bytes : List ℕ). IsPayload bytes) (sym c.in-Ok.ensures.ok) c.in_ok-test.ensures.ok
 
@@ -29,7 +33,7 @@ pub returns-in-Err : goal.returns-in-Err
 returns-in-Err c =
     record {
       ok = tt;
-      too_long = fault-other _ Memory TooLong (λ q. cc) c.in_ok-test.ensures.too_long;
-      nul = fault-other _ Memory Nul (λ q. cc) c.in_ok-test.ensures.nul;
+      too_long = fault-other _ Memory TooLong apart.0 c.in_ok-test.ensures.too_long;
+      nul = fault-other _ Memory Nul apart.1 c.in_ok-test.ensures.nul;
       memory = λ q. c.in-Err.ensures.memory;
     }
