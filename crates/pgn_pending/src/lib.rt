@@ -7,7 +7,7 @@
 //!
 //! Contracts see a `Pending` as what it keeps, `Kept`. It stands for a history, a list of changes, where the live list of that
 //! history, as `live_changes` has it, is kept so. Each value stands for some history, and each call says for every history of the
-//! old value what the new value stands for. `finish_after` says the same of a whole list of calls.
+//! old value what the new value stands for.
 //!
 //! The room for what `finish` hands out is made by `note` and `action`, so that to roll back, to release and to finish cannot be
 //! refused for want of memory. A notification is hashed once and its text kept once, whatever the savepoints.
@@ -31,10 +31,8 @@
 //! ```
 #![tactic(auto)]
 
-mod call;
 mod pending;
 mod savepoint;
 mod savepoints;
 
-pub use call::{Call, finish_after};
 pub use pending::{NoSuch, Pending, each_has_a_history};

@@ -11,3 +11,13 @@ invariant_of-self-2 c =
 
 pub returns-clause-ok : goal.returns-clause-ok
 returns-clause-ok c = λ changes h. rw c.in_ok-keep.ensures.keys (after-noted changes _ c.args.note (h ∙ sym c.self.view_is))
+
+pub invariant_of-self : goal.invariant_of-self
+invariant_of-self c =
+    let fits : length c.self.inside.notes.keys ≤ vec_capacity c.reserve.new.self = omega (arith, c.self.invariant.1, c.reserve.ensures.capacity) in
+    (c.reserve.ensures.items ∙ c.self.invariant.0, fits, c.self.invariant.2)
+
+pub invariant_of-self-in_err-keep : goal.invariant_of-self-in_err-keep
+invariant_of-self-in_err-keep c =
+    let fits : length c.self.inside.notes.keys ≤ vec_capacity c.reserve.new.self = omega (arith, c.self.invariant.1, c.reserve.ensures.capacity) in
+    rw c.in_err-keep.ensures.err (c.reserve.ensures.items ∙ c.self.invariant.0, fits, c.self.invariant.2)
