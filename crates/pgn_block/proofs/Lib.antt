@@ -1,4 +1,3 @@
 pub mod StepLaws
 pub mod EffectLaws
-pub mod CallerLaws
 pub mod OnlyLaws

@@ -102,3 +102,8 @@ step-nothing state old command result new step memory history = (
   λ empty. empty-gives_nothing state old result new (subst (λ (other : Command). IfOk result (λ effect. IsStep old other effect new)) empty step)
       (subst (λ (other : Command). IsErr result → IsTrue (takes_memory state other)) empty memory) history,
 )
+
+-- what holds whatever the listening set
+pub each-set : {X E : Type 0} (r : Result X E) (Q : X → Type 0) → IfOk r Q → IfOk r (λ x. (set : List (List ℕ)) → Q x)
+each-set (Ok x) Q h = λ set. h
+each-set (Err e) Q h = tt

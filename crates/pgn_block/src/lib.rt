@@ -8,16 +8,14 @@
 //!
 //! The contract of `step` is the table of answers, `answer` in `pgn_answers`: for every history of the open transaction, the effect,
 //! the next state and the history after it are those of the table's cell. Contracts see a `Block` as `BlockView`, its state and
-//! what is kept of its transaction. `effects_after` is a caller: it tells a block commands one after another.
+//! what is kept of its transaction.
 #![tactic(auto)]
 
 mod block;
-mod caller;
 mod effect;
 pub mod examples;
 pub mod laws;
 mod stage;
 
 pub use block::{Block, each_has_a_history};
-pub use caller::effects_after;
 pub use effect::{Effect, Kind};

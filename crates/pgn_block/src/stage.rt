@@ -142,13 +142,20 @@ impl Stage {
         ensures { IsStep self.old (Command.RollbackTo name) result self.new }
     {
         match self {
-            Stage::Idle { .. } => needs_block(Needs::RollbackTo),
+            Stage::Idle { .. } => {
+                drop(name);
+                needs_block(Needs::RollbackTo)
+            }
             Stage::InBlock { pending, .. } => match pending.back_to(&name) {
-                Ok(()) => done(Tag::Rollback),
+                Ok(()) => {
+                    drop(name);
+                    done(Tag::Rollback)
+                }
                 Err(NoSuch) => self.refuse(Refusal::NoSavepoint { name }),
             },
             Stage::Failed { pending, .. } => match pending.back_to(&name) {
                 Ok(()) => {
+                    drop(name);
                     self.reopen();
                     done(Tag::Rollback)
                 }
@@ -215,7 +222,10 @@ impl Stage {
                 pending.note(note)?;
                 Ok(done(tag))
             }
-            Stage::Failed { .. } => Ok(aborted()),
+            Stage::Failed { .. } => {
+                drop(note);
+                Ok(aborted())
+            }
         }
     }
 
