@@ -13,6 +13,7 @@ use Rattle.pgn_journal.specs.Due.{due, is_due_to}
 use Rattle.pgn_journal.specs.Near.{Near}
 use Rattle.pgn_model.specs.Walk.{Terms, State}
 use Rattle.pgn_model.specs.Legal.{IsFullThere}
+use Rattle.pgn_model.specs.Trace.{IsUpToDate}
 use Rattle.pgn_model.specs.laws.NextLine.{StandsFresh, MayReadTo}
 use Rattle.pgn_model.proofs.NextLineLaws.{idle-reads, await-reads, end-reads, reader-is_up_to_date, quiet-is_up_to_date, finished-more}
 use Rattle.pgn_hub.specs.Calls.{HasLearned, HasWoken}
@@ -22,7 +23,7 @@ use Rattle.pgn_session.specs.declared.doing.FlagPlan.{FlagPlan}
 use Rattle.pgn_session.specs.declared.doing.Doing.{Doing}
 use Rattle.pgn_session.specs.declared.doing.Doing.TheVariants.{Lines, Committing, Awaiting, Ending, Over}
 use Rattle.pgn_session.specs.Parts.{HasReadOn, with_read}
-use Rattle.pgn_session.specs.Standing.{StandsAt, HasAnswered, IsAnswered, IsRested}
+use Rattle.pgn_session.specs.Standing.{StandsAt, HasAnswered, HasRested, IsAnswered, IsRested}
 use Rattle.pgn_session.proofs.KnownLaws.{stands-grows, stands-learned, IsSameTold, answered-same, told-below, answered-rested, members-push, members-again}
 
 -- a pass that has looked at its wake
@@ -234,3 +235,25 @@ read-rested terms plan done block set doing k q items after from to r idle is_fr
     subst (λ (is : List Item). IsRested terms plan done block set doing q is) (sym shown)
     (subst (λ (p : Known). IsRested terms plan done block set doing p (with_read items from to (due (k.seen ++ read.more) from to k.db set))) (sym read.known)
     (reads terms plan done block set doing k read.more items from to (nat_lt from to) refl is_from low forward read.after_told within idle h))
+
+-- where a block is open, no read is due
+read-none : (terms : Terms) (plan : FlagPlan) (block : BlockView) (k : Known) (s : State) (doing : Doing) → (block.state ≡ Idle → ⊥) → HasAnswered terms plan block k s doing → HasRested terms plan block k s doing
+read-none terms plan block k s Lines opened h = (h, λ idle. absurd (opened (sym h.block_state ∙ idle)))
+read-none terms plan block k s (Committing actions notes tag) opened h = absurd h
+read-none terms plan block k s (Awaiting flag looks) opened h = (h, λ idle. absurd (opened (sym h.0.block_state ∙ idle)))
+read-none terms plan block k s (Ending found looks) opened h = absurd (opened h.0.dropped)
+read-none terms plan block k s Over opened h = absurd (opened h.dropped)
+
+-- so who has answered has rested
+pub open-rested : (terms : Terms) (plan : FlagPlan) (done : ℕ) (block : BlockView) (set : List (List ℕ)) (doing : Doing) (k : Known) (items : List Item)
+    → (block.state ≡ Idle → ⊥) → IsAnswered terms plan done block set doing k items → IsRested terms plan done block set doing k items
+open-rested terms plan done block set doing k items opened h =
+    record { state = h.state; stands = h.stands; rest = h.rest; channels = h.channels; here = read-none terms plan block k h.state doing opened h.here }
+
+-- nor is it of who is no listener
+pub unlisted-rested : (terms : Terms) (plan : FlagPlan) (done : ℕ) (block : BlockView) (set : List (List ℕ)) (doing : Doing) (k : Known) (items : List Item)
+    → k.mark ≡ None → IsAnswered terms plan done block set doing k items → IsRested terms plan done block set doing k items
+unlisted-rested terms plan done block set doing k items none h =
+    let s : State = h.state in
+    let up : IsUpToDate terms k.seen s = subst (λ (m : Option ℕ). IfSome m (λ mark. Near terms.settings.format (is_due_to terms.section.db s.set) k.seen mark s.told)) (sym (h.stands.mark ∙ none)) tt in
+    record { state = s; stands = h.stands; rest = h.rest; channels = h.channels; here = answered-rested terms plan block k s doing h.here up }

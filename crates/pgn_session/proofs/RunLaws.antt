@@ -1,5 +1,5 @@
 -- A step of a whole session by a command: what the block answers at once, what the hub shows, and a commit that was handed out.
-use Rattle.std.proofs.Common.{◌≡◌, inl, ℕ, ◌+◌, List, [], ◌∷◌, ◌++◌, length, drop, None, All, sym, ap, ◌∙◌, refl, subst, append-nil, append_assoc}
+use Rattle.std.proofs.Common.{◌≡◌, inl, ℕ, ◌+◌, List, [], ◌∷◌, ◌++◌, length, drop, None, Result, Ok, Err, IfOk, OnErr, All, sym, ap, ◌∙◌, refl, subst, append-nil, append_assoc}
 use Rattle.std.proofs.lemmas.List.Elements.{All-nil, All-cons, All-head}
 use Rattle.pgn_base.specs.declared.note.Note.{Note}
 use Rattle.pgn_base.specs.declared.answers.Tag.{Tag}
@@ -7,6 +7,7 @@ use Rattle.pgn_base.specs.declared.answers.Tag.TheVariants as tag
 use Rattle.pgn_base.specs.declared.listen_set.Action.{Action}
 use Rattle.pgn_base.specs.declared.command.Command.{Command}
 use Rattle.pgn_language.specs.declared.scenario.Act.TheVariants.{Run}
+use Rattle.pgn_language.specs.declared.scenario.ScriptLine.{ScriptLine}
 use Rattle.pgn_model.specs.declared.item.Item.{Item}
 use Rattle.pgn_model.specs.declared.item.Item.TheVariants as item
 use Rattle.pgn_hub.specs.declared.known.Known.{Known}
@@ -17,6 +18,8 @@ use Rattle.pgn_block.specs.declared.effect.Kind.TheVariants.{ListeningChannels, 
 use Rattle.pgn_block.specs.declared.effect.Effect.{Effect}
 use Rattle.pgn_block.specs.declared.effect.Effect.TheVariants as effect
 use Rattle.pgn_session.specs.declared.session.Session.{Session}
+use Rattle.pgn_session.specs.declared.commit.Commit.{Commit}
+use Rattle.pgn_session.specs.declared.command.Left.TheVariants as left
 use Rattle.pgn_session.specs.declared.doing.Step.{Step}
 use Rattle.pgn_session.specs.declared.doing.Step.TheVariants.{Did}
 use Rattle.pgn_session.specs.declared.doing.Doing.{Doing}
@@ -24,12 +27,13 @@ use Rattle.pgn_session.specs.declared.doing.Doing.TheVariants.{Lines, Committing
 use Rattle.pgn_session.specs.Parts.{HasTaken, HasShownUsage, answered_items, IsToldByBlock}
 use Rattle.pgn_session.specs.FirstRead.{HasReadFor}
 use Rattle.pgn_session.specs.Standing.{terms_of, IsAnswered, IsRested}
-use Rattle.pgn_session.specs.Steps.{ShowsLine, IsWithoutHub, IsNoLine}
-use Rattle.pgn_session.specs.Whole.{ComesWith, HasAnswer, HasRest, HasStepped}
+use Rattle.pgn_session.specs.Commits.{left_of}
+use Rattle.pgn_session.specs.Steps.{ShowsLine, ShowsNext, StandsStill, IsWithoutHub, IsNoLine}
+use Rattle.pgn_session.specs.Whole.{ComesWith, HasAnswer, HasRest, HasStepped, HasRefused}
 use Rattle.pgn_session.proofs.BlockLaws.{block-answered}
 use Rattle.pgn_session.proofs.UsageLaws.{usage-answered}
 use Rattle.pgn_session.proofs.CommitLaws.{handed-out}
-use Rattle.pgn_session.proofs.WholeLaws.{line-did}
+use Rattle.pgn_session.proofs.WholeLaws.{line-did, line-stepped}
 
 one : (shown : Item) → IsNoLine shown → All IsNoLine (shown ∷ [])
 one shown none = All-cons IsNoLine shown [] none (All-nil IsNoLine)
@@ -108,3 +112,72 @@ handed-rested shape known s line command next items actions notes done comes bet
     subst (λ (is : List Item). IsRested terms s.plan s.done next s.set.channels (Committing actions notes done) (known s.pass) is) (sym same)
     (handed-out terms s.plan s.done s.block next s.set.channels (known s.pass) s.items.items comes.next (drop (s.done + 1) s.section.lines) command actions notes done
     (subst (λ (d : Doing). IsRested terms s.plan s.done s.block s.set.channels d (known s.pass) s.items.items) between rested) comes.split comes.does first taken)
+
+-- where nothing is left to do, the block and the set have told the answer
+pub left-told : (e : Effect) → left_of e ≡ left.Nothing → IsToldByBlock e
+left-told effect.Nothing is = tt
+left-told (effect.Reply done warning) is = tt
+left-told (effect.Refuse refusal) is = tt
+left-told (effect.Query ListeningChannels) is = tt
+left-told (effect.Query QueueUsage) is = absurd (cc)
+left-told (effect.Commit actions notes done) is = absurd (cc)
+
+-- where the usage is left to show, the command asks for it
+pub left-usage : (e : Effect) → left_of e ≡ left.Usage → e ≡ effect.Query QueueUsage
+left-usage (effect.Query QueueUsage) is = refl
+left-usage effect.Nothing is = absurd (cc)
+left-usage (effect.Reply done warning) is = absurd (cc)
+left-usage (effect.Refuse refusal) is = absurd (cc)
+left-usage (effect.Query ListeningChannels) is = absurd (cc)
+left-usage (effect.Commit actions notes done) is = absurd (cc)
+
+-- where a commit is left, it is the one that the block has handed out
+pub left-commit : (e : Effect) (commit : Commit) → left_of e ≡ left.Commit commit → e ≡ effect.Commit commit.actions commit.notes commit.tag
+left-commit (effect.Commit actions notes done) commit is =
+    let same : (record { actions = actions; notes = notes; tag = done }) ≡ commit = cc in
+    ap (λ (c : Commit). effect.Commit c.actions c.notes c.tag) same
+left-commit effect.Nothing commit is = absurd (cc)
+left-commit (effect.Reply done warning) commit is = absurd (cc)
+left-commit (effect.Refuse refusal) commit is = absurd (cc)
+left-commit (effect.Query ListeningChannels) commit is = absurd (cc)
+left-commit (effect.Query QueueUsage) commit is = absurd (cc)
+
+-- the names that a command asks for are those of the set, and another command shows none
+pub answered-same : (before items : List Item) (line : ℕ) (names set : List (List ℕ)) (e : Effect) → items ≡ before → (e ≡ effect.Query ListeningChannels → names ≡ set)
+    → answered_items items line names e ≡ answered_items before line set e
+answered-same before items line names set (effect.Query ListeningChannels) same asked =
+    ap (λ (is : List Item). answered_items is line names (effect.Query ListeningChannels)) same ∙ ap (λ (ns : List (List ℕ)). answered_items before line ns (effect.Query ListeningChannels)) (asked refl)
+answered-same before items line names set effect.Nothing same asked = ap (λ (is : List Item). answered_items is line names effect.Nothing) same
+answered-same before items line names set (effect.Reply done warning) same asked = ap (λ (is : List Item). answered_items is line names (effect.Reply done warning)) same
+answered-same before items line names set (effect.Refuse refusal) same asked = ap (λ (is : List Item). answered_items is line names (effect.Refuse refusal)) same
+answered-same before items line names set (effect.Query QueueUsage) same asked = same
+answered-same before items line names set (effect.Commit actions notes done) same asked = same
+
+-- a step that carries out the commit of a line is the line's
+pub commit-stepped : {P E : Type 0} (shape : Shape) (known : P → Known) (s m n : Session P) (line : ℕ) (command : Command) (stood : Commit) (r : Result Step E) → ComesWith s line (Run command)
+    → m ≡ record s { block = m.block; items = m.items } → m.items.items ≡ s.items.items → IfOk r (λ step. HasStepped shape known m (Committing stood.actions stood.notes stood.tag) n step) → IfOk r (λ step. HasStepped shape known s Lines n step)
+commit-stepped shape known s m n line command stood (Err e) comes same shown h = tt
+commit-stepped {P} shape known s m n line command stood (Ok step) comes same shown h =
+    let at : HasStepped shape known (record s { block = m.block; items = m.items }) (Committing stood.actions stood.notes stood.tag) n step = subst (λ (x : Session P). HasStepped shape known x (Committing stood.actions stood.notes stood.tag) n step) same h in
+    let next : ShowsNext (comes.next ∷ drop (s.done + 1) s.section.lines) (known s.pass) (known n.pass) m.items.items n.items.items =
+    subst (λ (lines : List ScriptLine). ShowsNext lines (known s.pass) (known n.pass) m.items.items n.items.items) comes.split at.moved.0 in
+    let shows : ShowsLine line (known s.pass) (known n.pass) s.items.items n.items.items =
+    subst (λ (items : List Item). ShowsLine line (known s.pass) (known n.pass) items n.items.items) shown
+    (subst (λ (number : ℕ). ShowsLine number (known s.pass) (known n.pass) m.items.items n.items.items) comes.number next) in
+    line-stepped shape known s n line (Run command) step comes (record { section = at.same.section; plan = at.same.plan; patience = at.same.patience }) at.moved.3 at.answered at.rested (shows, at.moved.1, at.moved.2)
+
+-- and where it is refused, the session stands with what the block has handed out
+pub commit-refused : {P E : Type 0} (shape : Shape) (known : P → Known) (s m n : Session P) (stood : Commit) (r : Result Step E)
+    → m ≡ record s { block = m.block; items = m.items } → m.items.items ≡ s.items.items → OnErr r (HasRefused shape known m (Committing stood.actions stood.notes stood.tag) n) → OnErr r (HasRefused shape known s Lines n)
+commit-refused shape known s m n stood (Ok step) same shown h = tt
+commit-refused {P} shape known s m n stood (Err e) same shown h =
+    let at : HasRefused shape known (record s { block = m.block; items = m.items }) (Committing stood.actions stood.notes stood.tag) n = subst (λ (x : Session P). HasRefused shape known x (Committing stood.actions stood.notes stood.tag) n) same h in
+    record {
+      same = record { section = at.same.section; plan = at.same.plan; patience = at.same.patience };
+      place = subst (λ (d : Doing). StandsStill Lines d) (sym at.place) tt;
+      pass = at.pass;
+      shown = at.shown ∙ shown;
+      counted = at.counted;
+      channels = at.channels;
+      rested = at.rested;
+    }

@@ -13,7 +13,7 @@ use Rattle.pgn_session.specs.declared.doing.Step.TheVariants.{Did, Waiting, Ende
 use Rattle.pgn_session.specs.declared.doing.Doing.{Doing}
 use Rattle.pgn_session.specs.declared.doing.Doing.TheVariants.{Lines, Committing, Awaiting, Ending, Over}
 use Rattle.pgn_session.specs.Standing.{WasFound, HaveEnded}
-use Rattle.pgn_session.specs.Steps.{looked_doing, looked_step, HasTurned, FindsEach, HasEndedLooks, HasWaited, HasBegun, HasMoved, StandsStill, unanswered, LooksInVain, Waits, Ends}
+use Rattle.pgn_session.specs.Steps.{looked_doing, looked_step, HasTurned, FindsEach, HasEndedLooks, HasWaited, HasBegun, HasMoved, StandsStill, unanswered, AnswersLine, BeginsEnd, LooksInVain, Waits, Ends, is_waiting_on}
 use Rattle.pgn_session.proofs.EndLaws.{looked-ended}
 
 -- a turn of an await ends its line, or waits
@@ -141,3 +141,76 @@ refused-ended plan patience (Committing actions notes tag) stands q still ended 
 refused-ended plan patience (Awaiting flag looks) stands q still ended = ended
 refused-ended plan patience (Ending first looks) stands q still ended = still
 refused-ended plan patience Over stands q still ended = still
+
+-- a step that leads to the place between two lines, past a line that was begun by it, has answered that line
+line-did : (plan : FlagPlan) (session : ℕ) (lines : List ScriptLine) (stood : Doing) (done counted : ℕ) (k q : Known) (stands : Doing) (step : Step) → stands ≡ Lines ⊎ (stands ≡ Over) → step ≡ Did → unanswered stood ≡ 0 → counted ≡ done + 1
+    → (step ≡ Did) ↔ (AnswersLine stood done stands counted ⊎ BeginsEnd plan session lines stood stands k q)
+line-did plan session lines stood done counted k q stands step place did none one =
+    let few : unanswered stands ≡ 0 = either place in
+    (λ is. inl (omega (arith, few, none, one)), λ h. did)
+  where
+    either : stands ≡ Lines ⊎ (stands ≡ Over) → unanswered stands ≡ 0
+    either (inl e) = ap unanswered e
+    either (inr e) = ap unanswered e
+
+-- so has a turn of an await that does not wait
+turn-did : (plan : FlagPlan) (session : ℕ) (lines : List ScriptLine) (stood : Doing) (done counted : ℕ) (k q : Known) (stands : Doing) (step : Step) → TurnEnds stands step → (BeginsEnd plan session lines stood stands k q → ⊥)
+    → counted + unanswered stood ≡ done + 1 → (step ≡ Did) ↔ (AnswersLine stood done stands counted ⊎ BeginsEnd plan session lines stood stands k q)
+turn-did plan session lines stood done counted k q stands step (inl t) other one = (λ is. inl (omega (arith, t.0, one)), λ h. t.1)
+turn-did plan session lines stood done counted k q stands step (inr t) other one = (λ is. absurd (let no : ⊥ = cc (t.1, is) in no), λ h. absurd (either h))
+  where
+    either : AnswersLine stood done stands counted ⊎ BeginsEnd plan session lines stood stands k q → ⊥
+    either (inl answers) = omega (arith, t.0, one, answers)
+    either (inr begins) = other begins
+
+begun-did : (plan : FlagPlan) (session patience number : ℕ) (act : Act) (line : ScriptLine) (lines : List ScriptLine) (done counted : ℕ) (k q : Known) (before after : List Item) (stands : Doing) (step : Step)
+    → HasBegun plan session patience number act k q before after stands step → counted ≡ done + 1 → (step ≡ Did) ↔ (AnswersLine Lines done stands counted ⊎ BeginsEnd plan session (line ∷ lines) Lines stands k q)
+begun-did plan session patience number (Run command) line lines done counted k q before after stands step m one = line-did plan session (line ∷ lines) Lines done counted k q stands step (inl m.1) m.2 refl one
+begun-did plan session patience number (Signal flag) line lines done counted k q before after stands step m one = line-did plan session (line ∷ lines) Lines done counted k q stands step (inl m.1) m.2 refl one
+begun-did plan session patience number (Await flag) line lines done counted k q before after stands step m one =
+    turn-did plan session (line ∷ lines) Lines done counted k q stands step (turn-ends flag 1 patience k q _ after stands step m) (λ b. let no : ⊥ = cc b.no_line in no) (omega (arith, one))
+begun-did plan session patience number Quit line lines done counted k q before after stands step m one = line-did plan session (line ∷ lines) Lines done counted k q stands step (inr m.1) m.2 refl one
+
+waited-not_did : (plan : FlagPlan) (first looks patience : ℕ) (k q : Known) (stands : Doing) (step : Step) → HasWaited plan first looks patience k q stands step → step ≡ Did → ⊥
+waited-not_did plan first looks patience k q stands step w is = either (is_waiting_on plan w.reached looks patience) (sym w.comes_to ∙ is)
+  where
+    either : (b : Bool) → cond b Waiting Ended ≡ Did → ⊥
+    either true e = cc
+    either false e = cc
+
+-- the step came to Did exactly where a line got its whole answer or the script's end began
+pub moved-did : (plan : FlagPlan) (session patience : ℕ) (lines : List ScriptLine) (stood : Doing) (done counted : ℕ) (k q : Known) (before after : List Item) (stands : Doing) (step : Step)
+    → HasMoved plan session patience lines stood done counted k q before after stands step → (step ≡ Did) ↔ (AnswersLine stood done stands counted ⊎ BeginsEnd plan session lines stood stands k q)
+moved-did plan session patience [] Lines done counted k q before after stands step m =
+    (λ is. inr (record { stood_between = refl; no_line = refl; place = m.0.place; raised = m.0.raised }), λ h. m.0.comes_to)
+moved-did plan session patience (line ∷ lines) Lines done counted k q before after stands step m = begun-did plan session patience line.line line.act line lines done counted k q before after stands step m.0 m.1
+moved-did plan session patience lines (Committing actions notes tag) done counted k q before after stands step m =
+    line-did plan session lines (Committing actions notes tag) done counted k q stands step (inl m.1) m.2 refl m.3
+moved-did plan session patience lines (Awaiting flag looks) done counted k q before after stands step m =
+    turn-did plan session lines (Awaiting flag looks) done counted k q stands step (turn-ends flag (looks + 1) patience k q before after stands step m.0) (λ b. let no : ⊥ = cc b.stood_between in no) (omega (arith, m.1))
+moved-did plan session patience lines (Ending first looks) done counted k q before after stands step m =
+    (λ is. absurd (waited-not_did plan first looks patience k q stands step m.0 is), λ h. absurd (either h))
+  where
+    either : AnswersLine (Ending first looks) done stands counted ⊎ BeginsEnd plan session lines (Ending first looks) stands k q → ⊥
+    either (inl answers) = omega (arith, answers, m.2)
+    either (inr begins) = let no : ⊥ = cc begins.stood_between in no
+moved-did plan session patience lines Over done counted k q before after stands step m = (λ is. absurd (let no : ⊥ = cc (m.3, is) in no), λ h. absurd (either h))
+  where
+    either : AnswersLine Over done stands counted ⊎ BeginsEnd plan session lines Over stands k q → ⊥
+    either (inl answers) = omega (arith, answers, m.4)
+    either (inr begins) = let no : ⊥ = cc begins.stood_between in no
+
+-- a session is over where a step came to Ended
+pub moved-over : (plan : FlagPlan) (session patience : ℕ) (lines : List ScriptLine) (stood : Doing) (done counted : ℕ) (k q : Known) (before after : List Item) (stands : Doing) (step : Step)
+    → HasMoved plan session patience lines stood done counted k q before after stands step → step ≡ Ended → stands ≡ Over
+moved-over plan session patience [] Lines done counted k q before after stands step m is = absurd (let no : ⊥ = cc (m.0.comes_to, is) in no)
+moved-over plan session patience (line ∷ lines) Lines done counted k q before after stands step m is = absurd (begun-ended plan session patience line.line line.act k q before after stands step m.0 is)
+moved-over plan session patience lines (Committing actions notes tag) done counted k q before after stands step m is = absurd (let no : ⊥ = cc (m.2, is) in no)
+moved-over plan session patience lines (Awaiting flag looks) done counted k q before after stands step m is = absurd (not-ended stands step (turn-ends flag (looks + 1) patience k q before after stands step m.0) is)
+moved-over plan session patience lines (Ending first looks) done counted k q before after stands step m is =
+    m.0.place ∙ either (is_waiting_on plan m.0.reached looks patience) (sym m.0.comes_to ∙ is)
+  where
+    either : (b : Bool) → cond b Waiting Ended ≡ Ended → cond b (Ending m.0.reached (looks + 1)) Over ≡ Over
+    either true e = absurd (let no : ⊥ = cc in no)
+    either false e = refl
+moved-over plan session patience lines Over done counted k q before after stands step m is = m.2

@@ -1,7 +1,5 @@
--- Sessions for which a sleep was counted, and two halves of sessions.
-use Rattle.std.proofs.Common.{◌≡◌, ℕ, List, [], ◌∷◌, ◌++◌, map, length, All, sym, ap, ◌∙◌, refl, subst, arith}
-use Rattle.std.proofs.Math.ListN.{get_or, set}
-use Rattle.std.proofs.lemmas.List.{map-append, nil_from_length}
+-- Sessions for which a sleep was counted, and sessions that are changed one after another.
+use Rattle.std.proofs.Common.{◌≡◌, ℕ, zero, suc, ◌+◌, ◌<◌, ◌≤◌, List, [], ◌∷◌, ◌++◌, map, length, take, drop, set, get_or, All, sym, ap, ◌∙◌, refl, subst, arith, add-one}
 use Rattle.std.proofs.lemmas.List.Elements.{All-nil, All-cons, All-head, All-tail, All-get_or, All-map, All-weaker}
 use Rattle.pgn_hub.specs.declared.known.Known.{Known}
 use Rattle.pgn_hub.specs.Shape.{Shape}
@@ -38,41 +36,78 @@ module _ {P : Type 0} (is_own : P → Type 0) (shape : Shape) (known : P → Kno
       subst (λ (zs : List (Session P)). All (IsReady is_own shape known) zs) (sym same)
       (All-map (IsReady is_own shape known) (slept micros) xs (All-weaker (IsReady is_own shape known) (λ s. IsReady is_own shape known (slept micros s)) (slept-ready micros) xs all))
 
--- what the halves keep, the whole keeps
-pub halves-same : {P X : Type 0} (f : Session P → X) (whole front back left right : List (Session P)) → whole ≡ front ++ back → map f left ≡ map f front → map f right ≡ map f back → map f (left ++ right) ≡ map f whole
-halves-same {P} {X} f whole front back left right cut one two =
-    map-append f left right
-    ∙ ap (λ (ys : List X). ys ++ map f right) one
-    ∙ ap (λ (ys : List X). map f front ++ ys) two
-    ∙ sym (map-append f front back)
-    ∙ ap (λ (ss : List (Session P)). map f ss) (sym cut)
+-- the front of so many is changed
+abbrev part : {X : Type 0} → (X → X) → ℕ → List X → List X
+part f i xs = map f (take i xs) ++ drop i xs
 
--- what holds of all holds of each half
-pub all-front : {X : Type 0} (P : X → Type 0) (xs ys : List X) → All P (xs ++ ys) → All P xs
-all-front P [] ys all = All-nil P
-all-front P (x ∷ xs) ys all = All-cons P x xs (All-head P x (xs ++ ys) all) (all-front P xs ys (All-tail P x (xs ++ ys) all))
+part-here : {X : Type 0} (f : X → X) (xs : List X) (i : ℕ) (d : X) → i < length xs → get_or (part f i xs) i d ≡ get_or xs i d
+part-here f [] i d lt = absurd (omega (arith, lt))
+part-here f (x ∷ xs) zero d lt = refl
+part-here f (x ∷ xs) (suc i) d lt = part-here f xs i d (omega (arith, lt))
 
--- what holds of all holds of those behind the first ones
-pub all-back : {X : Type 0} (P : X → Type 0) (xs ys : List X) → All P (xs ++ ys) → All P ys
-all-back P [] ys all = all
-all-back P (x ∷ xs) ys all = all-back P xs ys (All-tail P x (xs ++ ys) all)
+part-further : {X : Type 0} (f : X → X) (xs : List X) (i : ℕ) (d : X) → i < length xs → set (part f i xs) i (f (get_or xs i d)) ≡ part f (suc i) xs
+part-further f [] i d lt = absurd (omega (arith, lt))
+part-further f (x ∷ xs) zero d lt = refl
+part-further {X} f (x ∷ xs) (suc i) d lt = ap (λ (rest : List X). f x ∷ rest) (part-further f xs i d (omega (arith, lt)))
 
--- of none, and of the one that there is
-pub none-all : {X : Type 0} (P : X → Type 0) (xs : List X) → length xs ≡ 0 → All P xs
-none-all P xs e = subst (λ ys. All P ys) (sym (nil_from_length xs e)) (All-nil P)
+-- once the next one was changed too, one more is
+pub part-more : {X : Type 0} (f : X → X) (xs now : List X) (i : ℕ) (d new : X) → i < length xs → now ≡ map f (take i xs) ++ drop i xs → new ≡ f (get_or now i d) → set now i new ≡ map f (take (i + 1) xs) ++ drop (i + 1) xs
+part-more {X} f xs now i d new lt e is =
+    ap (λ (ys : List X). set ys i new) e ∙ ap (λ (x : X). set (part f i xs) i x) (is ∙ ap (λ (ys : List X). f (get_or ys i d)) e ∙ ap f (part-here f xs i d lt))
+    ∙ part-further f xs i d lt ∙ ap (λ (n : ℕ). part f n xs) (sym (add-one i))
+
+part-whole : {X : Type 0} (f : X → X) (xs : List X) (i : ℕ) → length xs ≤ i → part f i xs ≡ map f xs
+part-whole f [] zero le = refl
+part-whole f [] (suc i) le = refl
+part-whole f (x ∷ xs) zero le = absurd (omega (arith, le))
+part-whole {X} f (x ∷ xs) (suc i) le = ap (λ (rest : List X). f x ∷ rest) (part-whole f xs i (omega (arith, le)))
+
+-- and behind the last one, all are
+pub part-all : {X : Type 0} (f : X → X) (xs now : List X) (i : ℕ) → length xs ≤ i → now ≡ map f (take i xs) ++ drop i xs → now ≡ map f xs
+part-all f xs now i le e = e ∙ part-whole f xs i le
+
+front-suc : {X : Type 0} (P : X → Type 0) (xs : List X) (i : ℕ) (x : X) → P x → All P (take i xs) → All P (take (suc i) (set xs i x))
+front-suc P [] i x p all = All-nil P
+front-suc P (y ∷ ys) zero x p all = All-cons P x [] p (All-nil P)
+front-suc P (y ∷ ys) (suc i) x p all = All-cons P y (take (suc i) (set ys i x)) (All-head P y (take i ys) all) (front-suc P ys i x p (All-tail P y (take i ys) all))
+
+-- what holds of the first ones and of the next one that was set holds of one more
+pub front-more : {X : Type 0} (P : X → Type 0) (xs : List X) (i : ℕ) (x : X) → P x → All P (take i xs) → All P (take (i + 1) (set xs i x))
+front-more {X} P xs i x p all = subst (λ (n : ℕ). All P (take n (set xs i x))) (sym (add-one i)) (front-suc P xs i x p all)
+
+-- of so many as there are, it holds of all
+pub front-all : {X : Type 0} (P : X → Type 0) (xs : List X) (i : ℕ) → length xs ≤ i → All P (take i xs) → All P xs
+front-all P [] i le all = All-nil P
+front-all P (y ∷ ys) zero le all = absurd (omega (arith, le))
+front-all P (y ∷ ys) (suc i) le all = All-cons P y ys (All-head P y (take i ys) all) (front-all P ys i (omega (arith, le)) (All-tail P y (take i ys) all))
+
+-- what holds of all from the next one on holds of the next one
+pub back-here : {X : Type 0} (P : X → Type 0) (xs : List X) (i : ℕ) (d : X) → i < length xs → All P (drop i xs) → P (get_or xs i d)
+back-here P [] i d lt all = absurd (omega (arith, lt))
+back-here P (y ∷ ys) zero d lt all = All-head P y ys all
+back-here P (y ∷ ys) (suc i) d lt all = back-here P ys i d (omega (arith, lt)) all
+
+back-suc : {X : Type 0} (P : X → Type 0) (xs : List X) (i : ℕ) (x : X) → All P (drop i xs) → All P (drop (suc i) (set xs i x))
+back-suc P [] i x all = All-nil P
+back-suc P (y ∷ ys) zero x all = All-tail P y ys all
+back-suc P (y ∷ ys) (suc i) x all = back-suc P ys i x all
+
+-- and of all behind it
+pub back-more : {X : Type 0} (P : X → Type 0) (xs : List X) (i : ℕ) (x : X) → All P (drop i xs) → All P (drop (i + 1) (set xs i x))
+back-more {X} P xs i x all = subst (λ (n : ℕ). All P (drop n (set xs i x))) (sym (add-one i)) (back-suc P xs i x all)
+
+-- a list keeps its image where the one that was set has the same
+pub set-same : {X Y : Type 0} (f : X → Y) (xs : List X) (i : ℕ) (d x : X) → f x ≡ f (get_or xs i d) → map f (set xs i x) ≡ map f xs
+set-same f [] i d x same = refl
+set-same {X} {Y} f (y ∷ ys) zero d x same = ap (λ (z : Y). z ∷ map f ys) same
+set-same {X} {Y} f (y ∷ ys) (suc i) d x same = ap (λ (zs : List Y). f y ∷ zs) (set-same f ys i d x same)
 
 -- what holds of all holds of the only one
 pub one-held : {X : Type 0} (P : X → Type 0) (xs : List X) (d : X) → length xs ≡ 1 → All P xs → P (get_or xs 0 d)
 one-held P xs d e all = All-get_or P xs 0 d (omega (arith, e)) all
 
--- what holds of the one that was set holds of all, where there is one
-pub one-all : {X : Type 0} (P : X → Type 0) (xs : List X) (x : X) → length xs ≡ 1 → P x → All P (set xs 0 x)
-one-all P [] x e p = All-nil P
-one-all P (y ∷ []) x e p = All-cons P x [] p (All-nil P)
-one-all P (y ∷ z ∷ zs) x e p = absurd (omega (arith, e))
-
--- a list of one keeps its image where the one that was set has the same
-pub one-same : {X Y : Type 0} (f : X → Y) (xs : List X) (d x : X) → length xs ≡ 1 → f x ≡ f (get_or xs 0 d) → map f (set xs 0 x) ≡ map f xs
-one-same f [] d x e same = refl
-one-same {X} {Y} f (y ∷ []) d x e same = ap (λ (z : Y). z ∷ []) same
-one-same f (y ∷ z ∷ zs) d x e same = absurd (omega (arith, e))
+-- where the only one was changed, all are
+pub one-changed : {X : Type 0} (f : X → X) (xs : List X) (d x : X) → length xs ≡ 1 → x ≡ f (get_or xs 0 d) → set xs 0 x ≡ map f xs
+one-changed f [] d x e is = absurd (omega (arith, e))
+one-changed {X} f (y ∷ []) d x e is = ap (λ (z : X). z ∷ []) is
+one-changed f (y ∷ z ∷ zs) d x e is = absurd (omega (arith, e))

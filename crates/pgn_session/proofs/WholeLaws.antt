@@ -1,5 +1,5 @@
 -- What a step of a whole session promises, from what it has done or why it was refused.
-use Rattle.std.proofs.Common.{◌≡◌, ◌↔◌, ℕ, ◌+◌, List, ◌∷◌, drop, Result, Ok, Err, IfOk, OnErr, sym, ap, refl, subst}
+use Rattle.std.proofs.Common.{◌≡◌, ◌↔◌, ◌⊎◌, inl, inr, ℕ, ◌+◌, List, ◌∷◌, drop, Result, Ok, Err, IfOk, OnErr, sym, ap, refl, subst, arith}
 use Rattle.pgn_model.specs.declared.item.Item.{Item}
 use Rattle.pgn_hub.specs.declared.known.Known.{Known}
 use Rattle.pgn_language.specs.declared.scenario.Act.{Act}
@@ -14,9 +14,9 @@ use Rattle.pgn_session.specs.declared.doing.Step.TheVariants.{Did, Waiting, Ende
 use Rattle.pgn_session.specs.declared.doing.Doing.{Doing}
 use Rattle.pgn_session.specs.declared.doing.Doing.TheVariants.{Lines, Committing, Awaiting, Ending, Over}
 use Rattle.pgn_session.specs.Standing.{terms_of, IsRested}
-use Rattle.pgn_session.specs.Steps.{HasBegun, HasMoved, StandsStill, Waits, Ends}
+use Rattle.pgn_session.specs.Steps.{HasBegun, HasMoved, StandsStill, AnswersLine, BeginsEnd, unanswered, Waits, Ends}
 use Rattle.pgn_session.specs.Whole.{ComesWith, HasAnswer, HasRest, IsSameScript, HasStepped, HasRefused}
-use Rattle.pgn_session.proofs.StepLaws.{CountsFound, moved-waits, moved-ended, refused-ended}
+use Rattle.pgn_session.proofs.StepLaws.{CountsFound, moved-waits, moved-ended, refused-ended, moved-did, moved-over}
 
 -- what a step did, or that it was refused
 pub record Came {P E : Type 0} (shape : Shape) (known : P → Known) (old new : Session P) (r : Result Step E) : Type 0 where
@@ -45,6 +45,43 @@ came-ended shape known old new (Ok step) c h =
     (counts _ old.plan old.done old.block old.set.channels old.doing (known old.pass) old.items.items h) in
     (λ is. ended.0 (let e : step ≡ Ended = cc in e), λ h. ap Ok (ended.1 h))
 came-ended shape known old new (Err e) c h = (λ is. absurd (let no : ⊥ = cc in no), λ ended. absurd (refused-ended old.plan old.patience old.doing new.doing (known new.pass) c.refused.place ended))
+
+-- no line got its answer by a step that was refused, nor did the end begin
+refused-did : (plan : FlagPlan) (session : ℕ) (lines : List ScriptLine) (stood stands : Doing) (done counted : ℕ) (k q : Known) → StandsStill stood stands → counted ≡ done
+    → AnswersLine stood done stands counted ⊎ BeginsEnd plan session lines stood stands k q → ⊥
+refused-did plan session lines Lines stands done counted k q still same (inl answers) = omega (arith, same, answers)
+refused-did plan session lines (Committing actions notes tag) stands done counted k q still same (inl answers) = omega (arith, same, answers)
+refused-did plan session lines (Awaiting flag looks) stands done counted k q still same (inl answers) = omega (arith, same, answers, ap unanswered still)
+refused-did plan session lines (Ending first looks) stands done counted k q still same h = still
+refused-did plan session lines Over stands done counted k q still same h = still
+refused-did plan session lines Lines (Committing actions notes tag) done counted k q still same (inr begins) = let no : ⊥ = cc begins.place in no
+refused-did plan session lines Lines Lines done counted k q still same (inr begins) = let no : ⊥ = cc begins.place in no
+refused-did plan session lines Lines (Awaiting flag looks) done counted k q still same (inr begins) = let no : ⊥ = cc still in no
+refused-did plan session lines Lines (Ending first looks) done counted k q still same (inr begins) = let no : ⊥ = cc still in no
+refused-did plan session lines Lines Over done counted k q still same (inr begins) = let no : ⊥ = cc still in no
+refused-did plan session lines (Committing actions notes tag) stands done counted k q still same (inr begins) = let no : ⊥ = cc begins.stood_between in no
+refused-did plan session lines (Awaiting flag looks) stands done counted k q still same (inr begins) = let no : ⊥ = cc begins.stood_between in no
+
+-- a step came to Did just where a line got its answer or the end began
+pub came-did : {P E : Type 0} (shape : Shape) (known : P → Known) (old new : Session P) (r : Result Step E) → Came shape known old new r
+    → (r ≡ Ok Did) ↔ (AnswersLine old.doing old.done new.doing new.done ⊎ BeginsEnd old.plan old.section.no (drop old.done old.section.lines) old.doing new.doing (known old.pass) (known new.pass))
+came-did shape known old new (Ok step) c =
+    let did = moved-did old.plan old.section.no old.patience (drop old.done old.section.lines) old.doing old.done new.done (known old.pass) (known new.pass) old.items.items new.items.items new.doing step c.stepped.moved in
+    (λ is. did.0 (let e : step ≡ Did = cc in e), λ h. ap Ok (did.1 h))
+came-did shape known old new (Err e) c =
+    (λ is. absurd (let no : ⊥ = cc in no), λ h. absurd (refused-did old.plan old.section.no (drop old.done old.section.lines) old.doing new.doing old.done new.done (known old.pass) (known new.pass) c.refused.place c.refused.counted h))
+
+-- one that came to the end is over
+pub came-over : {P E : Type 0} (shape : Shape) (known : P → Known) (old new : Session P) (r : Result Step E) → Came shape known old new r → r ≡ Ok Ended → new.doing ≡ Over
+came-over shape known old new (Ok step) c is =
+    moved-over old.plan old.section.no old.patience (drop old.done old.section.lines) old.doing old.done new.done (known old.pass) (known new.pass) old.items.items new.items.items new.doing step c.stepped.moved
+    (let e : step ≡ Ended = cc in e)
+came-over shape known old new (Err e) c is = absurd (let no : ⊥ = cc in no)
+
+-- and it left no read out
+pub came-rested : {P E : Type 0} (shape : Shape) (known : P → Known) (old new : Session P) (r : Result Step E) → Came shape known old new r → r ≡ Ok Ended → HasRest shape known new
+came-rested shape known old new (Ok step) c is = c.stepped.rested (let e : step ≡ Ended = cc in e)
+came-rested shape known old new (Err e) c is = absurd (let no : ⊥ = cc in no)
 
 -- a line was begun: the step by the line that comes with this act
 line-moved : (plan : FlagPlan) (session patience : ℕ) (lines rest : List ScriptLine) (line : ScriptLine) (number : ℕ) (act : Act) (done counted : ℕ) (k q : Known) (before after : List Item) (stands : Doing) (step : Step)

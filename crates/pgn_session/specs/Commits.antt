@@ -13,13 +13,24 @@ use Rattle.pgn_model.specs.declared.item.Item.TheVariants.{Line, Enlist, Publish
 use Rattle.pgn_hub.specs.Shape.{Shape}
 use Rattle.pgn_model.specs.laws.NextLine.{is_enlisting, is_leaving}
 use Rattle.pgn_hub.specs.Calls.{HasEnlisted, HasInterest, HasPublished, HasMetFull, HasLeft}
+use Rattle.pgn_block.specs.declared.effect.Kind.TheVariants.{QueueUsage}
+use Rattle.pgn_block.specs.declared.effect.Effect.{Effect}
+use Rattle.pgn_block.specs.declared.effect.Effect.TheVariants as effect
 use Rattle.pgn_session.specs.declared.commit.Commit.{Commit}
+use Rattle.pgn_session.specs.declared.command.Left.{Left}
+use Rattle.pgn_session.specs.declared.command.Left.TheVariants as left
 use Rattle.pgn_session.specs.declared.doing.Doing.{Doing}
 use Rattle.pgn_session.specs.declared.doing.Doing.TheVariants.{Committing}
 
 -- a session stands so that keeps this commit, since memory did not suffice for it
 abbrev pub committing : Commit → Doing
 committing commit = Committing commit.actions commit.notes commit.tag
+
+-- what is left to do of a command that came to this, once what the block and the set tell is shown
+abbrev pub left_of : Effect → Left
+left_of (effect.Query QueueUsage) = left.Usage
+left_of (effect.Commit actions notes tag) = left.Commit (record { actions = actions; notes = notes; tag = tag })
+left_of effect = left.Nothing
 
 -- the session has become a listener, where it was to
 abbrev pub HasJoined : Bool → Known → Known → Option Enlisted → Type 0

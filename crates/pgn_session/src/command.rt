@@ -1,14 +1,14 @@
 ghost use Rattle.std.specs.Prelude.{◌≡◌, ◌+◌, ◌≤◌, ◌<◌, List, [], ◌∷◌, ◌++◌, drop, length, IfOk, OnOk, OnErr, vec_len, vec_capacity};
 ghost use Rattle.pgn_language.specs.declared.scenario.Act.TheVariants as act;
 ghost use Rattle.pgn_language.specs.declared.scenario.ScriptLine.{ScriptLine};
-ghost use Rattle.pgn_session.specs.Commits.{committing};
+ghost use Rattle.pgn_session.specs.Commits.{committing, left_of};
 ghost use Rattle.pgn_session.specs.FirstRead.{HasReadFor};
 ghost use Rattle.pgn_session.specs.declared.doing.Doing.TheVariants as doing;
-ghost use Rattle.pgn_session.specs.Parts.{HasTaken, HasShownUsage, rows_items};
+ghost use Rattle.pgn_session.specs.Parts.{HasTaken, answered_items, rows_items};
 ghost use Rattle.pgn_session.specs.Whole.{HasRest, RestsAt, ComesWith, HasStepped, HasRefused, StepsBetween, StaysBetween};
 
 use crate::commit::Commit;
-use crate::line::measure;
+use crate::line::{measure, put};
 use crate::{Doing, Session, Step};
 use pgn_base::{Command, ListenSet, Names, Tag};
 use pgn_block::{Block, Effect, Kind};
@@ -46,99 +46,18 @@ impl<P: PassView + Send + Drop> Session<P> {
     {
         let NextCommand { line, command } = next;
         let taken = take(alloc, &mut self.block, &self.set, &mut self.items, command)?;
-        let Taken { effect, rows } = taken;
-        match effect {
-            Effect::Nothing => {
-                drop(rows);
-                Ok(self.show_line(line))
+        match answer(&mut self.items, line, taken) {
+            Left::Nothing => {
+                self.done += 1;
+                Ok(Step::Did)
             }
-            Effect::Reply { tag, warning } => {
-                drop(rows);
-                Ok(self.show(line, Item::Reply { tag, warning }))
+            Left::Usage => {
+                measure(rt, hub, &mut self.pass, &mut self.items, line);
+                self.done += 1;
+                Ok(Step::Did)
             }
-            Effect::Refuse { refusal } => {
-                drop(rows);
-                Ok(self.show(line, Item::Refuse { refusal }))
-            }
-            Effect::Query {
-                kind: Kind::ListeningChannels,
-            } => Ok(self.show_rows(line, rows)),
-            Effect::Query {
-                kind: Kind::QueueUsage,
-            } => {
-                drop(rows);
-                Ok(self.measure(rt, hub, line))
-            }
-            Effect::Commit {
-                actions,
-                notes,
-                tag,
-            } => {
-                drop(rows);
-                let commit = Commit {
-                    actions,
-                    notes,
-                    tag,
-                };
-                self.commit(rt, hub, commit)
-            }
+            Left::Commit(commit) => self.commit(rt, hub, commit),
         }
-    }
-
-    // Records a line that is not answered.
-    fn show_line(&mut self, line: u32) -> Step
-        requires room { vec_len self.old.items + 1 ≤ vec_capacity self.old.items }
-        requires counted { self.old.done < usize.MAX }
-        ensures same { self.new ≡ record self.old { items = self.new.items; done = self.old.done + 1 } }
-        ensures shown { self.new.items.items ≡ self.old.items.items ++ Item.Line line ∷ [] }
-        ensures did { result ≡ Step.Did }
-    {
-        self.items.push(Item::Line { line }).unwrap();
-        self.done += 1;
-        Step::Did
-    }
-
-    // Records a line and its answer.
-    fn show(&mut self, line: u32, answer: Item) -> Step
-        requires room { vec_len self.old.items + 2 ≤ vec_capacity self.old.items }
-        requires counted { self.old.done < usize.MAX }
-        ensures same { self.new ≡ record self.old { items = self.new.items; done = self.old.done + 1 } }
-        ensures shown { self.new.items.items ≡ self.old.items.items ++ Item.Line line ∷ [] ++ answer ∷ [] }
-        ensures did { result ≡ Step.Did }
-    {
-        self.items.push(Item::Line { line }).unwrap();
-        self.items.push(answer).unwrap();
-        self.done += 1;
-        Step::Did
-    }
-
-    // Records a line and the channels that it asks for.
-    fn show_rows(&mut self, line: u32, rows: Rows) -> Step
-        requires room { vec_len self.old.items + 3 ≤ vec_capacity self.old.items }
-        requires counted { self.old.done < usize.MAX }
-        ensures same { self.new ≡ record self.old { items = self.new.items; done = self.old.done + 1 } }
-        ensures shown { self.new.items.items ≡ rows_items self.old.items.items line rows.names rows.count }
-        ensures did { result ≡ Step.Did }
-    {
-        show_channels(&mut self.items, line, rows);
-        self.done += 1;
-        Step::Did
-    }
-
-    // Records a line and the queue's usage.
-    fn measure<H: Hub<Pass = P>, R: Wait>(&mut self, rt: &R, hub: &H, line: u32) -> Step
-        requires own { H.is_pass hub.now self.old.pass }
-        requires room { vec_len self.old.items + 3 ≤ vec_capacity self.old.items }
-        requires counted { self.old.done < usize.MAX }
-        ensures own { H.is_pass hub.now self.new.pass }
-        ensures same { self.new ≡ record self.old { pass = self.new.pass; items = self.new.items; done = self.old.done + 1 } }
-        ensures measured { HasShownUsage (H.shape hub.now) (P.known self.old.pass) (P.known self.new.pass)
-            line self.old.items.items self.new.items.items }
-        ensures did { result ≡ Step.Did }
-    {
-        measure(rt, hub, &mut self.pass, &mut self.items, line);
-        self.done += 1;
-        Step::Did
     }
 
     /// Commits what the block has handed out. After a refusal it is kept for the next step.
@@ -161,11 +80,11 @@ impl<P: PassView + Send + Drop> Session<P> {
                 notes,
                 tag,
             } = commit;
-            self.doing = Doing::Committing {
+            self.doing.set(Doing::Committing {
                 actions,
                 notes,
                 tag,
-            };
+            });
             return Err(AllocError);
         }
         let line = self.next_number();
@@ -258,9 +177,79 @@ fn rows_for(alloc: Global, command: &Command, set: &ListenSet) -> Result<Rows, A
     };
     let names = set.names(alloc)?;
     let Ok(count) = u32::try_from(names.as_slice().len()) else {
+        drop(names);
         return Err(AllocError);
     };
     Ok(Rows { names, count })
+}
+
+// What is left to do of a command, once the block has answered it.
+#[derive(Drop)]
+enum Left {
+    Nothing,
+    Usage,
+    Commit(Commit),
+}
+
+// Records a line that the block and the set answer. Of another one nothing is recorded yet.
+fn answer(items: &mut Vec<Item>, line: u32, taken: Taken) -> Left
+    requires room { vec_len items.old + 3 ≤ vec_capacity items.old }
+    requires count { taken.rows.count ≡ length taken.rows.names }
+    ensures left { result ≡ left_of taken.effect }
+    ensures shown { items.new.items ≡ answered_items items.old.items line taken.rows.names taken.effect }
+    ensures room { result ≡ Left.Usage → vec_len items.new + 3 ≤ vec_capacity items.new }
+{
+    let Taken { effect, rows } = taken;
+    match effect {
+        Effect::Nothing => {
+            drop(rows);
+            put(items, Item::Line { line });
+            Left::Nothing
+        }
+        Effect::Reply { tag, warning } => {
+            drop(rows);
+            show(items, line, Item::Reply { tag, warning });
+            Left::Nothing
+        }
+        Effect::Refuse { refusal } => {
+            drop(rows);
+            show(items, line, Item::Refuse { refusal });
+            Left::Nothing
+        }
+        Effect::Query {
+            kind: Kind::ListeningChannels,
+        } => {
+            show_channels(items, line, rows);
+            Left::Nothing
+        }
+        Effect::Query {
+            kind: Kind::QueueUsage,
+        } => {
+            drop(rows);
+            Left::Usage
+        }
+        Effect::Commit {
+            actions,
+            notes,
+            tag,
+        } => {
+            drop(rows);
+            Left::Commit(Commit {
+                actions,
+                notes,
+                tag,
+            })
+        }
+    }
+}
+
+// Records a line and its answer.
+fn show(items: &mut Vec<Item>, line: u32, answer: Item)
+    requires { vec_len items.old + 2 ≤ vec_capacity items.old }
+    ensures { items.new.items ≡ items.old.items ++ Item.Line line ∷ [] ++ answer ∷ [] }
+{
+    put(items, Item::Line { line });
+    put(items, answer);
 }
 
 // Records the channels that the session listens to.
@@ -269,12 +258,11 @@ fn show_channels(items: &mut Vec<Item>, line: u32, rows: Rows)
     ensures { items.new.items ≡ rows_items items.old.items line rows.names rows.count }
 {
     let Rows { names, count } = rows;
-    items.push(Item::Line { line }).unwrap();
-    items.push(Item::Channels { names }).unwrap();
-    items
-        .push(Item::Reply {
-            tag: Tag::Select(count),
-            warning: None,
-        })
-        .unwrap();
+    put(items, Item::Line { line });
+    put(items, Item::Channels { names });
+    let answer = Item::Reply {
+        tag: Tag::Select(count),
+        warning: None,
+    };
+    put(items, answer);
 }

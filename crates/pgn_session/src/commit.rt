@@ -5,6 +5,7 @@ ghost use Rattle.pgn_model.specs.laws.NextLine.{is_enlisting, is_leaving};
 ghost use Rattle.pgn_session.specs.Commits.{HasJoined, HasSent, HasLeftOr, HasCommitted, has_actions, set_after, enlisted_items, sent_items, left_items, ending_item, commit_items};
 
 use crate::Session;
+use crate::line::put;
 use pgn_base::{Action, Actions, Enlisted, Full, ListenSet, Note, Notes, Refusal, Tag, Xid};
 use pgn_hub::{Hub, PassView};
 use pgn_model::Item;
@@ -186,7 +187,7 @@ fn show_commit(items: &mut Vec<Item>, line: u32, outcome: Outcome, notes: Notes,
         sent,
         left,
     } = outcome;
-    items.push(Item::Line { line }).unwrap();
+    put(items, Item::Line { line });
     show_enlisted(items, enlisted);
     show_sent(items, &sent, notes);
     show_left(items, left);
@@ -201,7 +202,7 @@ fn show_enlisted(items: &mut Vec<Item>, enlisted: Option<Enlisted>)
     ensures one { vec_len items.new ≤ vec_len items.old + 1 }
 {
     if let Some(Enlisted { base, point }) = enlisted {
-        items.push(Item::Enlist { base, point }).unwrap();
+        put(items, Item::Enlist { base, point });
     }
 }
 
@@ -214,8 +215,8 @@ fn show_sent(items: &mut Vec<Item>, sent: &Option<Result<Xid, Full>>, notes: Not
 {
     match sent {
         None => {}
-        Some(Ok(xid)) => items.push(Item::Publish { xid: *xid, notes }).unwrap(),
-        Some(Err(full)) => items.push(Item::QueueFull { full: *full, notes }).unwrap(),
+        Some(Ok(xid)) => put(items, Item::Publish { xid: *xid, notes }),
+        Some(Err(full)) => put(items, Item::QueueFull { full: *full, notes }),
     }
 }
 
@@ -227,7 +228,7 @@ fn show_left(items: &mut Vec<Item>, left: bool)
     ensures one { vec_len items.new ≤ vec_len items.old + 1 }
 {
     if left {
-        items.push(Item::Leave).unwrap();
+        put(items, Item::Leave);
     }
 }
 
@@ -242,5 +243,5 @@ fn show_ending(items: &mut Vec<Item>, sent: Option<Result<Xid, Full>>, tag: Tag)
         },
         None | Some(Ok(_)) => Item::Reply { tag, warning: None },
     };
-    items.push(ending).unwrap();
+    put(items, ending);
 }

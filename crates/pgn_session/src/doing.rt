@@ -1,4 +1,7 @@
+ghost use Rattle.std.specs.Prelude.{◌≡◌};
+
 use pgn_base::{Actions, Notes, Tag, Xid};
+use std::mem;
 
 /// Where the end flags of a scenario stand among its hub's flags: session i, of `sessions`, raises `first_end + i - 1` where its
 /// script ends.
@@ -31,6 +34,15 @@ pub enum Doing {
     },
     /// The session has quit, or has waited long enough for the others.
     Over,
+}
+
+impl Doing {
+    /// Puts another place in the place of this one.
+    pub(crate) fn set(&mut self, now: Doing)
+        ensures { self.new ≡ now }
+    {
+        drop(mem::replace(self, now));
+    }
 }
 
 /// What a step came to.

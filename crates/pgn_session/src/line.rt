@@ -10,6 +10,17 @@ use pgn_hub::{Hub, PassView};
 use pgn_model::Item;
 use std::sync::Wait;
 
+/// Records what happened, where there is room for it.
+#[inline(always)]
+pub(crate) fn put(items: &mut Vec<Item>, item: Item)
+    requires { vec_len items.old + 1 ≤ vec_capacity items.old }
+    ensures items { items.new.items ≡ items.old.items ++ item ∷ [] }
+    ensures len { vec_len items.new ≡ vec_len items.old + 1 }
+    ensures room { vec_capacity items.old ≤ vec_capacity items.new }
+{
+    items.push(item).unwrap();
+}
+
 /// Raises a flag, and records its line.
 pub(crate) fn signal<P: PassView + Send + Drop, H: Hub<Pass = P>>(
     hub: &H,
@@ -26,9 +37,9 @@ pub(crate) fn signal<P: PassView + Send + Drop, H: Hub<Pass = P>>(
     ensures shown { items.new.items
         ≡ items.old.items ++ Item.Line line ∷ [] ++ Item.Raise (P.known pass.old).told ∷ [] }
 {
-    items.push(Item::Line { line }).unwrap();
+    put(items, Item::Line { line });
     let value = hub.raise(pass, flag);
-    items.push(Item::Raise { value }).unwrap();
+    put(items, Item::Raise { value });
 }
 
 /// Records a look at an awaited flag that found something, or that was the last one which the patience allows. `looks` is how many looks
@@ -38,10 +49,10 @@ pub(crate) fn show_look(items: &mut Vec<Item>, found: &Option<Xid>, looks: u64, 
     ensures { items.new.items ≡ looked_items items.old.items looks patience found.now }
 {
     match found {
-        Some(value) => items.push(Item::Found { value: *value }).unwrap(),
+        Some(value) => put(items, Item::Found { value: *value }),
         None => {
             if looks >= patience {
-                items.push(Item::TimedOut { looks }).unwrap();
+                put(items, Item::TimedOut { looks });
             }
         }
     }
@@ -60,12 +71,12 @@ pub(crate) fn quit<P: PassView + Send + Drop, H: Hub<Pass = P>>(
     ensures left { HasQuit (P.known pass.old) (P.known pass.new) }
     ensures shown { items.new.items ≡ items.old.items ++ Item.Line line ∷ [] ++ quit_items (P.known pass.old).mark }
 {
-    items.push(Item::Line { line }).unwrap();
+    put(items, Item::Line { line });
     if pass.mark().is_none() {
         return;
     }
     hub.leave(pass);
-    items.push(Item::Leave).unwrap();
+    put(items, Item::Leave);
 }
 
 /// Shows the queue's usage, and records its line.
@@ -82,15 +93,14 @@ pub(crate) fn measure<P: PassView + Send + Drop, H: Hub<Pass = P>, R: Wait>(
     ensures measured { HasShownUsage (H.shape hub.now) (P.known pass.old) (P.known pass.new)
         line items.old.items items.new.items }
 {
-    items.push(Item::Line { line }).unwrap();
+    put(items, Item::Line { line });
     let usage = hub.usage(rt, pass);
-    items.push(Item::Used { usage }).unwrap();
-    items
-        .push(Item::Reply {
-            tag: Tag::Select(1),
-            warning: None,
-        })
-        .unwrap();
+    put(items, Item::Used { usage });
+    let answer = Item::Reply {
+        tag: Tag::Select(1),
+        warning: None,
+    };
+    put(items, answer);
 }
 
 /// Looks at the end flags of the sessions behind the first ones, in order, until a look gives nothing: answers how many were found.

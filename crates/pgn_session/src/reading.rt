@@ -2,6 +2,7 @@ ghost use Rattle.std.specs.Prelude.{◌≡◌, ◌<◌, Some, IfOk, OnErr, vec_l
 ghost use Rattle.pgn_hub.specs.Calls.{HasLearned};
 ghost use Rattle.pgn_session.specs.Parts.{HasReadOn, with_read};
 
+use crate::line::put;
 use pgn_base::{Deliveries, ListenSet, Xid};
 use pgn_hub::{Hub, PassView};
 use pgn_model::Item;
@@ -34,7 +35,10 @@ pub(crate) fn read_on<P: PassView + Send + Drop, H: Hub<Pass = P>>(
     let Reading { hub, alloc, from } = reading;
     items.reserve(1)?;
     let mut got = Vec::new(alloc);
-    let to = hub.scan(alloc, pass, set, &mut got)?;
+    let Ok(to) = hub.scan(alloc, pass, set, &mut got) else {
+        drop(got);
+        return Err(AllocError);
+    };
     show_read(items, from, to, Deliveries::from_items(got));
     Ok(to)
 }
@@ -45,6 +49,6 @@ fn show_read(items: &mut Vec<Item>, from: Xid, to: Xid, got: Deliveries)
     ensures { items.new.items ≡ with_read items.old.items from to got }
 {
     if from < to {
-        items.push(Item::Read { from, to, got }).unwrap();
+        put(items, Item::Read { from, to, got });
     }
 }

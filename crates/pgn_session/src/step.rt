@@ -9,7 +9,7 @@ ghost use Rattle.pgn_session.specs.Whole.{HasAnswer, HasRest, RestsAt, ComesWith
 
 use crate::command::NextCommand;
 use crate::commit::Commit;
-use crate::line::{find_ends, quit, show_look, signal};
+use crate::line::{find_ends, put, quit, show_look, signal};
 use crate::session::raise_end;
 use crate::{Doing, Session, Step};
 use pgn_base::{Copied, ListenSet};
@@ -89,7 +89,7 @@ impl<P: PassView + Send + Drop> Session<P> {
             Doing::Awaiting { flag, looks } => self.look_again(hub, flag, looks),
             Doing::Ending { found, looks } => Ok(self.wait_for_others(hub, found, looks)),
             Doing::Over => {
-                self.doing = Doing::Over;
+                self.doing.set(Doing::Over);
                 Ok(Step::Ended)
             }
         }
@@ -114,27 +114,6 @@ impl<P: PassView + Send + Drop> Session<P> {
         if self.done >= self.section.lines.as_slice().len() {
             return Ok(self.begin_end(hub));
         }
-        self.begin_line(rt, alloc, hub)
-    }
-
-    // Begins the next line.
-    fn begin_line<H: Hub<Pass = P>, R: Wait>(
-        &mut self,
-        rt: &R,
-        alloc: Global,
-        hub: &H,
-    ) -> Result<Step, AllocError>
-        requires own { H.is_pass hub.now self.old.pass }
-        requires served { IsServedBy (H.shape hub.now) self.old.section self.old.plan }
-        requires place { self.old.doing ≡ doing.Lines }
-        requires rested { HasRest (H.shape hub.now) P.known self.old }
-        requires read_first { IsToReadFirst self.old → HasReadTold (P.known self.old.pass) }
-        requires more { self.old.done < length self.old.section.lines }
-        requires counted { self.old.done < usize.MAX }
-        ensures own { H.is_pass hub.now self.new.pass }
-        ensures stepped { IfOk result (StepsBetween (H.shape hub.now) P.known self.old self.new) }
-        ensures refused { OnErr result (StaysBetween (H.shape hub.now) P.known self.old self.new) }
-    {
         let (line, act) = self.next_act(alloc)?;
         match act {
             Act::Run(command) => self.run(rt, alloc, hub, NextCommand { line, command }),
@@ -147,7 +126,8 @@ impl<P: PassView + Send + Drop> Session<P> {
     // The number of the next line, and what it does, copied.
     fn next_act(&self, alloc: Global) -> Result<(u32, Act), AllocError>
         requires more { self.now.done < length self.now.section.lines }
-        ensures { IfOk result (λ next. ComesWith self.now next.0 next.1) }
+        ensures comes { IfOk result (λ next. ComesWith self.now next.0 next.1) }
+        ensures counted { self.now.done < usize.MAX }
     {
         let next = &self.section.lines.as_slice()[self.done];
         let act = next.act.copy(alloc)?;
@@ -195,7 +175,7 @@ impl<P: PassView + Send + Drop> Session<P> {
         ensures refused { OnErr result (StaysBetween (H.shape hub.now) P.known self.old self.new) }
     {
         self.items.reserve(2)?;
-        self.items.push(Item::Line { line }).unwrap();
+        put(&mut self.items, Item::Line { line });
         self.done += 1;
         Ok(self.look_for(hub, flag, 1))
     }
@@ -210,14 +190,15 @@ impl<P: PassView + Send + Drop> Session<P> {
     ) -> Result<Step, AllocError>
         requires own { H.is_pass hub.now self.old.pass }
         requires flag { flag < (H.shape hub.now).flags }
+        requires place { self.old.doing ≡ doing.Lines }
         requires rested { RestsAt (H.shape hub.now) P.known self.old (doing.Awaiting flag looks) }
         requires few { looks < self.old.patience }
         ensures own { H.is_pass hub.now self.new.pass }
         ensures stepped { IfOk result (λ step. HasStepped (H.shape hub.now) P.known self.old (doing.Awaiting flag looks) self.new step) }
         ensures refused { OnErr result (HasRefused (H.shape hub.now) P.known self.old (doing.Awaiting flag looks) self.new) }
     {
-        if hub.is_called_off() || self.items.reserve(1).is_err() {
-            self.doing = Doing::Awaiting { flag, looks };
+        if self.items.reserve(1).is_err() || hub.is_called_off() {
+            self.doing.set(Doing::Awaiting { flag, looks });
             return Err(AllocError);
         }
         Ok(self.look_for(hub, flag, looks + 1))
@@ -227,6 +208,7 @@ impl<P: PassView + Send + Drop> Session<P> {
     fn look_for<H: Hub<Pass = P>>(&mut self, hub: &H, flag: u32, looks: u64) -> Step
         requires own { H.is_pass hub.now self.old.pass }
         requires flag { flag < (H.shape hub.now).flags }
+        requires place { self.old.doing ≡ doing.Lines }
         requires room { vec_len self.old.items + 1 ≤ vec_capacity self.old.items }
         ensures own { H.is_pass hub.now self.new.pass }
         ensures same { self.new
@@ -237,10 +219,9 @@ impl<P: PassView + Send + Drop> Session<P> {
         let found = hub.look(&mut self.pass, flag);
         show_look(&mut self.items, &found, looks, self.patience);
         if found.is_none() && looks < self.patience {
-            self.doing = Doing::Awaiting { flag, looks };
+            self.doing.set(Doing::Awaiting { flag, looks });
             return Step::Waiting;
         }
-        self.doing = Doing::Lines;
         Step::Did
     }
 
@@ -265,9 +246,10 @@ impl<P: PassView + Send + Drop> Session<P> {
         quit(hub, &mut self.pass, &mut self.items, line);
         raise_end(hub, &mut self.pass, self.section.no, self.plan);
         self.block.drop_block();
-        self.set = ListenSet::new(alloc, self.set.seed());
+        let seed = self.set.seed();
+        drop(mem::replace(&mut self.set, ListenSet::new(alloc, seed)));
         self.done += 1;
-        self.doing = Doing::Over;
+        self.doing.set(Doing::Over);
         Ok(Step::Did)
     }
 
@@ -283,7 +265,7 @@ impl<P: PassView + Send + Drop> Session<P> {
     {
         self.block.drop_block();
         raise_end(hub, &mut self.pass, self.section.no, self.plan);
-        self.doing = Doing::Ending { found: 0, looks: 0 };
+        self.doing.set(Doing::Ending { found: 0, looks: 0 });
         Step::Did
     }
 
@@ -314,13 +296,13 @@ impl<P: PassView + Send + Drop> Session<P> {
         let patience = self.patience;
         let reached = find_ends(hub, &mut self.pass, self.plan, found);
         if reached < self.plan.sessions && looks + 1 < patience {
-            self.doing = Doing::Ending {
+            self.doing.set(Doing::Ending {
                 found: reached,
                 looks: looks + 1,
-            };
+            });
             return Step::Waiting;
         }
-        self.doing = Doing::Over;
+        self.doing.set(Doing::Over);
         Step::Ended
     }
 }

@@ -1,6 +1,5 @@
-ghost use Rattle.std.specs.Prelude.{◌≡◌, ◌≢◌, ◌≤◌, ℕ, map, length, All};
+ghost use Rattle.std.specs.Prelude.{◌≡◌, ◌≢◌, ◌≤◌, map, length, All};
 ghost use Rattle.pgn_session.specs.Runs.{HasGivenUp, HaveSlept, IsHeld, IsReady, script_of, shown_of, slept};
-ghost use Rattle.pgn_session.specs.Standing.{IsServedBy};
 ghost use Rattle.pgn_session.specs.declared.turn.TheConstants.{LONGEST_SLEEP};
 
 use crate::waiting::{sleep_together_of, sleeps_of};
@@ -68,20 +67,7 @@ fn wait_alone<P: PassView + Send + Drop, H: Hub<Pass = P>, R: Wait + Clock>(
     requires ready { All (IsReady (H.is_pass hub.now) (H.shape hub.now) P.known) sessions.old }
     ensures { HaveSlept LONGEST_SLEEP sessions.old sessions.new }
 {
-    wait_ready(rt, hub, &mut sessions[0], waits);
-}
-
-// Waits, where the session has rested.
-fn wait_ready<P: PassView + Send + Drop, H: Hub<Pass = P>, R: Wait + Clock>(
-    rt: &R,
-    hub: &H,
-    session: &mut Session<P>,
-    waits: u32,
-)
-    requires ready { IsReady (H.is_pass hub.now) (H.shape hub.now) P.known session.old }
-    ensures { (micros : ℕ) × (micros ≤ LONGEST_SLEEP) × (session.new ≡ slept micros session.old) }
-{
-    session.wait_once(rt, hub, waits);
+    sessions[0].wait_once(rt, hub, waits);
 }
 
 // Sleeps on the flag of one session, and counts the sleep for each: no flag falls, so no look of any of them would have found more than
@@ -123,23 +109,9 @@ fn sleep_on_one<P: PassView + Send + Drop, H: Hub<Pass = P>, R: Wait>(
 fn sleep_over_all<P: PassView + Send + Drop>(sessions: &mut [Session<P>], micros: u64)
     ensures { sessions.new ≡ map (slept micros) sessions.old }
 {
-    if sessions.len() == 0 {
-        return;
+    for session in sessions.iter_mut() {
+        session.sleep_over(micros);
     }
-    if sessions.len() == 1 {
-        sleep_over_one(&mut sessions[0], micros);
-        return;
-    }
-    let (left, right) = sessions.split_at_mut(sessions.len() / 2);
-    sleep_over_all(left, micros);
-    sleep_over_all(right, micros);
-}
-
-// Counts a sleep for one.
-fn sleep_over_one<P: PassView + Send + Drop>(session: &mut Session<P>, micros: u64)
-    ensures { session.new ≡ slept micros session.old }
-{
-    session.sleep_over(micros);
 }
 
 /// Raises the end flag of each session after a refusal, so that no other waits for it.
@@ -152,25 +124,7 @@ pub fn give_up_all<P: PassView + Send + Drop, H: Hub<Pass = P>>(
     ensures scripts { map script_of sessions.new ≡ map script_of sessions.old }
     ensures shown { map shown_of sessions.new ≡ map shown_of sessions.old }
 {
-    if sessions.len() == 0 {
-        return;
+    for session in sessions.iter_mut() {
+        session.give_up(hub);
     }
-    if sessions.len() == 1 {
-        give_up_one(hub, &mut sessions[0]);
-        return;
-    }
-    let (left, right) = sessions.split_at_mut(sessions.len() / 2);
-    give_up_all(hub, left);
-    give_up_all(hub, right);
-}
-
-// Raises the end flag of one.
-fn give_up_one<P: PassView + Send + Drop, H: Hub<Pass = P>>(hub: &H, session: &mut Session<P>)
-    requires own { H.is_pass hub.now session.old.pass }
-    requires served { IsServedBy (H.shape hub.now) session.old.section session.old.plan }
-    ensures gave_up { HasGivenUp P.known session.new }
-    ensures script { script_of session.new ≡ script_of session.old }
-    ensures shown { shown_of session.new ≡ shown_of session.old }
-{
-    session.give_up(hub);
 }

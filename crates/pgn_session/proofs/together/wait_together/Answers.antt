@@ -1,4 +1,5 @@
-use Rattle.std.proofs.Common.{arith}
+use Rattle.std.proofs.Common.{◌≡◌, arith, rules}
+use Rattle.pgn_session.specs.declared.doing.Step.TheVariants.{Waiting}
 use Rattle.pgn_session.proofs.TogetherLaws.{all-unslept, slept-scripts, slept-shown}
 use Rattle.pgn_session.proofs.together.wait_together.Goals as goal
 
@@ -10,3 +11,8 @@ returns-clause-scripts g c = let waited = c.give_way.ensures.waited in slept-scr
 
 pub returns-clause-shown : goal.returns-clause-shown
 returns-clause-shown g c = let waited = c.give_way.ensures.waited in slept-shown waited.0 c.args.sessions.now c.give_way.new.sessions waited.2
+
+pub returns-clause-unslept : goal.returns-clause-unslept
+returns-clause-unslept g c = λ other.
+    let waits : c.args.step ≡ Waiting = search rules in
+    absurd (other waits)

@@ -17,12 +17,12 @@ returns-clause-stepped g c =
     let shape = g.H.Hub.shape c.args.hub.now in
     let known = g.P.PassView.known in
     let terms = terms_of shape s.section s.patience in
-    let pushed : c.push.new.self.items ≡ s.items.items ++ Line c.args.line ∷ [] =
-    (rw c.unwrap.ensures at c.push.ensures.items) ∙ ap (λ (items : List Item). items ++ Line c.args.line ∷ []) c.reserve.ensures.items in
+    let pushed : c.put.new.items.items ≡ s.items.items ++ Line c.args.line ∷ [] =
+    c.put.ensures.items ∙ ap (λ (items : List Item). items ++ Line c.args.line ∷ []) c.reserve.ensures.items in
     let same = c.look_for.ensures.same in
-    let answers = turn-answers terms s.plan (s.done + 1) s.block s.set.channels (known s.pass) (known n.pass) c.push.new.self.items n.items.items c.args.flag 1 n.doing c.look_for.result
+    let answers = turn-answers terms s.plan (s.done + 1) s.block s.set.channels (known s.pass) (known n.pass) c.put.new.items.items n.items.items c.args.flag 1 n.doing c.look_for.result
     c.requires.rested.stands.patient (g.met.H.Hub.within c.args.hub.now n.pass c.look_for.ensures.own)
-    (await-line terms s.plan s.done s.block s.set.channels s.doing (known s.pass) s.items.items c.push.new.self.items c.requires.comes.next c.args.line c.args.flag
+    (await-line terms s.plan s.done s.block s.set.channels s.doing (known s.pass) s.items.items c.put.new.items.items c.requires.comes.next c.args.line c.args.flag
     c.requires.place c.requires.rested c.requires.comes.split c.requires.comes.number c.requires.comes.does pushed)
     c.look_for.ensures.turned in
     line-stepped shape known s n c.args.line (Await c.args.flag) c.look_for.result c.requires.comes

@@ -78,7 +78,7 @@ returns-then-is_err-clause-refused g c =
     let stood : Doing = Committing c.args.commit.actions c.args.commit.notes c.args.commit.tag in
     let same = c.make_room.ensures.same in
     let terms = terms_of shape s.section s.patience in
-    record {
+    rw c.set.ensures (record {
       same = record { section = ap (λ (x : Session g.row.P.Denot). x.section) same; plan = ap (λ (x : Session g.row.P.Denot). x.plan) same; patience = ap (λ (x : Session g.row.P.Denot). x.patience) same };
       place = refl;
       pass = ap (λ (x : Session g.row.P.Denot). x.pass) same;
@@ -88,4 +88,4 @@ returns-then-is_err-clause-refused g c =
       rested = subst (λ (x : Session g.row.P.Denot). RestsAt shape known x stood) (sym same)
           (subst (λ (items : List Item). IsRested terms s.plan s.done s.block m.set.channels stood (known s.pass) items) (sym c.make_room.ensures.items)
           (subst (λ (set : List (List ℕ)). IsRested terms s.plan s.done s.block set stood (known s.pass) s.items.items) (sym c.make_room.ensures.channels) c.requires.rested));
-    }
+    })

@@ -1,4 +1,5 @@
-use Rattle.std.proofs.Common.{sym}
+use Rattle.std.proofs.Common.{ℕ, Option, sym, subst}
+use Rattle.pgn_session.specs.Parts.{HasFinishedFrom}
 use Rattle.pgn_session.specs.Standing.{terms_of}
 use Rattle.pgn_session.proofs.KnownLaws.{told-set}
 use Rattle.pgn_session.proofs.OverLaws.{learned-at_end, read-at_end}
@@ -20,3 +21,9 @@ pub read_on-requires-clause-interested : goal.read_on-requires-clause-interested
 read_on-requires-clause-interested g c κs within =
     let s = c.args.self.now in
     told-set (terms_of (g.H.Hub.shape c.args.hub.now) s.section s.patience) s.done s.set.channels (g.P.PassView.known s.pass) s.items.items _ c.in-Some.from (sym c.in-Some.ensures) c.requires.rested
+
+pub returns-clause-finished : goal.returns-clause-finished
+returns-clause-finished g c =
+    let s = c.args.self.now in
+    subst (λ (mark : Option ℕ). HasFinishedFrom mark (g.P.PassView.known s.pass) (g.P.PassView.known c.read_on.new.pass) s.set.channels s.items.items c.read_on.new.items.items) c.in-Some.ensures
+    (c.in_ok-_to._to, c.in_ok-_to.ensures.read)

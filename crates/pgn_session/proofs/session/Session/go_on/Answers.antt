@@ -103,4 +103,4 @@ returns-in-Ending-clause-stepped g c =
 
 pub returns-in-Over-clause-stepped : goal.returns-in-Over-clause-stepped
 returns-in-Over-clause-stepped g c =
-    over-stepped (g.H.Hub.shape c.args.hub.now) g.P.PassView.known c.args.self.now (sym c.replace.ensures.value ∙ c.in-Over.is) c.requires.rested
+    rw c.set.ensures (over-stepped (g.H.Hub.shape c.args.hub.now) g.P.PassView.known c.args.self.now (sym c.replace.ensures.value ∙ c.in-Over.is) c.requires.rested)

@@ -1,12 +1,13 @@
-use Rattle.std.proofs.Common.{◌≡◌, Bool, true, List, ap, sym, subst, ◌∙◌, rules}
+use Rattle.std.proofs.Common.{◌≡◌, Bool, true, List, None, refl, ap, sym, subst, ◌∙◌, rules}
+use Rattle.pgn_answers.specs.declared.block_state.BlockState.TheVariants.{Idle}
 use Rattle.pgn_model.specs.declared.item.Item.{Item}
 use Rattle.pgn_hub.specs.declared.known.Known.{Known}
 use Rattle.pgn_hub.specs.Calls.{HasWoken}
 use Rattle.pgn_session.specs.Parts.{Begins}
 use Rattle.pgn_session.specs.Standing.{terms_of, IsAnswered}
-use Rattle.pgn_session.proofs.ReadLaws.{quiet-rested, owed-still, woken-answered, learned-answered, read-rested}
+use Rattle.pgn_session.proofs.ReadLaws.{quiet-rested, owed-still, woken-answered, learned-answered, read-rested, open-rested, unlisted-rested}
 use Rattle.pgn_session.proofs.KnownLaws.{on-err, told-set}
-use Rattle.pgn_session.proofs.GrowthLaws.{read-more}
+use Rattle.pgn_session.proofs.GrowthLaws.{none-more, read-more}
 use Rattle.pgn_session.proofs.session.Session.idle.Goals as goal
 
 pub returns-then-not-woken-clause-rested : goal.returns-then-not-woken-clause-rested
@@ -53,3 +54,39 @@ returns-clause-grows g c =
     let before : List Item = c.args.self.now.items.items in
     let read = c.in_ok-to.ensures.read in
     subst (λ (after : List Item). Begins before after) (sym read.shown) (read-more before c.in-Some.from c.in_ok-to.to read.got)
+
+pub returns-clause-idled : goal.returns-clause-idled
+returns-clause-idled g c =
+    let format = (g.H.Hub.shape c.args.hub.now).format in
+    let k : Known = g.P.PassView.known c.args.self.now.pass in
+    let j : Known = g.P.PassView.known c.woken.new.pass in
+    let is : c.woken.result ≡ true = search rules in
+    (c.in-Some.from, j, subst (λ (b : Bool). HasWoken format k j b) is c.woken.ensures.woken, c.in_ok-to.ensures.read)
+
+pub returns-then-ne-clause-rested : goal.returns-then-ne-clause-rested
+returns-then-ne-clause-rested g c =
+    let s = c.args.self.now in
+    let opened : s.block.state ≡ Idle → ⊥ = search rules in
+    open-rested (terms_of (g.H.Hub.shape c.args.hub.now) s.section s.patience) s.plan s.done s.block s.set.channels s.doing (g.P.PassView.known s.pass) s.items.items opened c.requires.answered
+
+pub returns-in_default-clause-rested : goal.returns-in_default-clause-rested
+returns-in_default-clause-rested g c =
+    let s = c.args.self.now in
+    let none : (g.P.PassView.known s.pass).mark ≡ None = search rules in
+    unlisted-rested (terms_of (g.H.Hub.shape c.args.hub.now) s.section s.patience) s.plan s.done s.block s.set.channels s.doing (g.P.PassView.known s.pass) s.items.items none c.requires.answered
+
+pub returns-then-ne-clause-grows : goal.returns-then-ne-clause-grows
+returns-then-ne-clause-grows g c = none-more c.args.self.now.items.items c.args.self.now.items.items refl
+
+pub returns-in_default-clause-grows : goal.returns-in_default-clause-grows
+returns-in_default-clause-grows g c = none-more c.args.self.now.items.items c.args.self.now.items.items refl
+
+pub returns-then-not-woken-clause-grows : goal.returns-then-not-woken-clause-grows
+returns-then-not-woken-clause-grows g c = none-more c.args.self.now.items.items c.args.self.now.items.items refl
+
+pub returns-in_err-to-clause-grows : goal.returns-in_err-to-clause-grows
+returns-in_err-to-clause-grows g c = none-more c.args.self.now.items.items c.read_on.new.items.items c.in_err-to.ensures.refused_shows_nothing
+
+pub returns-in_err-to-clause-unread : goal.returns-in_err-to-clause-unread
+returns-in_err-to-clause-unread g c =
+    on-err _ _ (ap (λ (k : Known). k.mark) c.in_err-to.ensures.refused.known ∙ ap (λ (k : Known). k.mark) c.woken.ensures.woken.known)

@@ -1,7 +1,8 @@
-use Rattle.std.proofs.Common.{◌+◌, List, ap, sym, subst, arith}
+use Rattle.std.proofs.Common.{◌+◌, List, refl, ap, sym, subst, arith}
 use Rattle.pgn_model.specs.declared.item.Item.{Item}
 use Rattle.pgn_session.specs.declared.session.Session.{Session}
-use Rattle.pgn_session.specs.Standing.{terms_of}
+use Rattle.pgn_session.specs.declared.doing.Doing.TheVariants.{Awaiting}
+use Rattle.pgn_session.specs.Standing.{terms_of, IsRested}
 use Rattle.pgn_session.specs.Steps.{HasTurned}
 use Rattle.pgn_session.specs.Whole.{HasAnswer}
 use Rattle.pgn_session.proofs.AwaitLaws.{await-again, turn-answers}
@@ -26,3 +27,17 @@ returns-clause-stepped g c =
       rested = λ ended. absurd (answers.1 ended);
       moved = (turned, ap (λ (x : Session g.row.P.Denot). x.done) same);
     }
+
+pub returns-then-is_err-clause-refused : goal.returns-then-is_err-clause-refused
+returns-then-is_err-clause-refused g c =
+    let s = c.args.self.now in
+    rw c.set.ensures (record {
+      same = record { section = refl; plan = refl; patience = refl };
+      place = refl;
+      pass = refl;
+      shown = c.reserve.ensures.items;
+      counted = refl;
+      channels = refl;
+      rested = subst (λ (items : List Item). IsRested (terms_of (g.H.Hub.shape c.args.hub.now) s.section s.patience) s.plan s.done s.block s.set.channels (Awaiting c.args.flag c.args.looks) (g.P.PassView.known s.pass) items)
+          (sym c.reserve.ensures.items) c.requires.rested;
+    })

@@ -26,9 +26,10 @@ returns-clause-stepped g c =
       raised = c.raise_end.ensures.raised;
       shown = c.quit.ensures.shown ∙ ap (λ (items : List Item). items ++ Line c.args.line ∷ [] ++ quit_items k.mark) c.reserve.ensures.items;
     } in
-    line-did _ _ s _ c.args.line Quit c.requires.comes (record { section = refl; plan = refl; patience = refl }) refl
+    rw (c.set.ensures, c.replace.ensures.after)
+    (line-did _ _ s _ c.args.line Quit c.requires.comes (record { section = refl; plan = refl; patience = refl }) refl
     (subst (λ (b : BlockView). IsAnswered terms s.plan (s.done + 1) b c.new.result.channels Over q c.quit.new.items.items) (sym c.drop_block.ensures)
     (subst (λ (set : List (List ℕ)). IsAnswered terms s.plan (s.done + 1) idle_view set Over q c.quit.new.items.items) (sym (ap (λ (l : Listening). l.channels) c.new.ensures))
     (quit-line terms s.plan s.done s.block s.set.channels s.doing k q s.items.items c.quit.new.items.items c.requires.comes.next c.args.line
     c.requires.place c.requires.rested c.requires.comes.split c.requires.comes.number c.requires.comes.does first c.requires.served.session quits)))
-    (quits, refl, refl)
+    (quits, refl, refl))

@@ -1,9 +1,9 @@
-use Rattle.std.proofs.Common.{List, sym, subst}
+use Rattle.std.proofs.Common.{ℕ, List, Option, refl, sym, subst}
 use Rattle.pgn_model.specs.declared.item.Item.{Item}
-use Rattle.pgn_session.specs.Parts.{Begins}
+use Rattle.pgn_session.specs.Parts.{Begins, HasFinishedFrom}
 use Rattle.pgn_session.specs.Standing.{terms_of}
 use Rattle.pgn_session.proofs.KnownLaws.{told-set}
-use Rattle.pgn_session.proofs.GrowthLaws.{read-more}
+use Rattle.pgn_session.proofs.GrowthLaws.{none-more, read-more}
 use Rattle.pgn_session.proofs.FirstReadLaws.{learned-between, read-between}
 use Rattle.pgn_session.proofs.session.Session.read_first.Goals as goal
 
@@ -29,3 +29,15 @@ returns-clause-grows g c =
     let before : List Item = c.args.self.now.items.items in
     let read = c.in_ok-_to.ensures.read in
     subst (λ (after : List Item). Begins before after) (sym read.shown) (read-more before c.in-Some.from c.in_ok-_to._to read.got)
+
+pub returns-clause-finished : goal.returns-clause-finished
+returns-clause-finished g c =
+    let s = c.args.self.now in
+    subst (λ (mark : Option ℕ). HasFinishedFrom mark (g.P.PassView.known s.pass) (g.P.PassView.known c.read_on.new.pass) s.set.channels s.items.items c.read_on.new.items.items) c.in-Some.ensures
+    (c.in_ok-_to._to, c.in_ok-_to.ensures.read)
+
+pub returns-in_default-clause-grows : goal.returns-in_default-clause-grows
+returns-in_default-clause-grows g c = none-more c.args.self.now.items.items c.args.self.now.items.items refl
+
+pub returns-in_err-_to-clause-grows : goal.returns-in_err-_to-clause-grows
+returns-in_err-_to-clause-grows g c = none-more c.args.self.now.items.items c.read_on.new.items.items c.in_err-_to.ensures.refused_shows_nothing
