@@ -11,7 +11,7 @@ use Rattle.pgn_language.specs.Tokens.{Lexeme, Word, Quoted, Literal, Number, Sig
 use Rattle.pgn_language.specs.Grammar.{Slot, Key, Quote, Count, Punct, fits_slot, ReadsAs, text_of, value_of}
 use Rattle.pgn_language.specs.laws.Grammar.{after_first, is_done}
 use Rattle.pgn_command.specs.Reading.{front_lexeme, front_at, takes, expecting, closing, noted, Argument, after_argument, arguing, repeating, calling, outcome}
-use Rattle.pgn_command.proofs.FormSteps.{Stands, stands-next, stands-by, stands-stop, stands-lack, stands-taken, stands-refused, before_all, expecting-reads, taken-fits, key-word, only-fits, only-fails}
+use Rattle.pgn_command.proofs.FormSteps.{Stands, stands-next, stands-by, stands-stop, stands-lack, some-ways, stands-taken, stands-refused, before_all, expecting-reads, taken-fits, key-word, only-fits, only-fails}
 use Rattle.pgn_command.proofs.CloseSteps.{done, Complete, done-reads}
 
 -- what may follow where an argument may stand, before these
@@ -196,10 +196,10 @@ calling-reads text lexemes ahead s c =
     let closed : List (List Slot) = before_all (Punct (byte ")")) done in
     let after_two : List ℕ → Argument → Result Command ℕ = λ channel two. expecting (Punct (byte ")")) end two.rest (closing end (command.PgNotify (noted channel two.text))) in
     let after_one : Argument → Result Command ℕ = λ one. expecting (Punct (byte ",")) end one.rest (λ b. after_argument (arguing end b) (after_two one.text)) in
-    expecting-reads text lexemes (Punct (byte "(")) (argued (before_all (Punct (byte ",")) second)) ahead (λ a. after_argument (arguing end a) after_one) (λ h. absurd (cc)) s
-    (λ fo s1. arguing-reads text (lexemes ++ o ∷ []) (before_all (Punct (byte ",")) second) (drop 1 ahead) after_one (λ h. absurd (cc)) s1
-    (λ some one is_one s2. expecting-reads text (lexemes ++ o ∷ [] ++ some) (Punct (byte ",")) second one.rest (λ b. after_argument (arguing end b) (after_two one.text)) (λ h. absurd (cc)) s2
-    (λ fc s3. arguing-reads text (lexemes ++ o ∷ [] ++ some ++ front_lexeme one.rest ∷ []) closed (drop 1 one.rest) (after_two one.text) (λ h. absurd (cc)) s3
-    (λ more two is_two s4. expecting-reads text (lexemes ++ o ∷ [] ++ some ++ front_lexeme one.rest ∷ [] ++ more) (Punct (byte ")")) done two.rest (closing end (command.PgNotify (noted one.text two.text))) (λ h. absurd (cc)) s4
+    expecting-reads text lexemes (Punct (byte "(")) (argued (before_all (Punct (byte ",")) second)) ahead (λ a. after_argument (arguing end a) after_one) (some-ways _ refl) s
+    (λ fo s1. arguing-reads text (lexemes ++ o ∷ []) (before_all (Punct (byte ",")) second) (drop 1 ahead) after_one (some-ways _ refl) s1
+    (λ some one is_one s2. expecting-reads text (lexemes ++ o ∷ [] ++ some) (Punct (byte ",")) second one.rest (λ b. after_argument (arguing end b) (after_two one.text)) (some-ways _ refl) s2
+    (λ fc s3. arguing-reads text (lexemes ++ o ∷ [] ++ some ++ front_lexeme one.rest ∷ []) closed (drop 1 one.rest) (after_two one.text) (some-ways _ refl) s3
+    (λ more two is_two s4. expecting-reads text (lexemes ++ o ∷ [] ++ some ++ front_lexeme one.rest ∷ [] ++ more) (Punct (byte ")")) done two.rest (closing end (command.PgNotify (noted one.text two.text))) (some-ways _ refl) s4
     (λ fe s5. done-reads text (lexemes ++ o ∷ [] ++ some ++ front_lexeme one.rest ∷ [] ++ more ++ front_lexeme two.rest ∷ []) (command.PgNotify (noted one.text two.text)) (drop 1 two.rest) s5
     (c.forms o (front_lexeme one.rest) (front_lexeme two.rest) some more one.text two.text fo is_one fc is_two fe))))))

@@ -10,7 +10,7 @@ use Rattle.pgn_language.specs.laws.Grammar.{after_first, table_slots}
 use Rattle.pgn_command.specs.declared.verb.Verb.{Verb}
 use Rattle.pgn_command.specs.declared.verb.Verb.TheVariants as verb
 use Rattle.pgn_command.specs.Reading.{front_lexeme, takes, expecting, closing, past_work, rolling, noted, asking, calling, selecting, verb_of, starting, stated, outcome}
-use Rattle.pgn_command.proofs.FormSteps.{Stands, stands-start, stands-next, stands-by, stands-stop, stands-lack, stands-whole, before_all, expecting-reads, alike, key-word, form-at, sign-cases}
+use Rattle.pgn_command.proofs.FormSteps.{Stands, stands-start, stands-next, stands-by, stands-stop, stands-lack, stands-whole, some-ways, before_all, expecting-reads, alike, key-word, form-at, sign-cases}
 use Rattle.pgn_command.proofs.CloseSteps.{done, Complete, closing-reads, done-reads, named, naming-reads, worked, WorkComplete, working-reads}
 use Rattle.pgn_command.proofs.NameSteps.{saved, SavedComplete, saving-reads, rolled, RollComplete, rolling-reads, unlisted, unlistening-reads, paid, NoteComplete, notifying-reads, asked, asking-reads}
 use Rattle.pgn_command.proofs.ArgumentSteps.{IsArgument, Written, Nothing, Repeated, called, calling-reads}
@@ -249,7 +249,7 @@ selected_word text w v at ahead e s =
                       (asking-reads text (Word w ∷ Word v ∷ []) command.QueueUsage ahead (stands-by text (Word w ∷ Word v ∷ []) (filter_map (after_first (Word v)) selected) asked ahead (selected_usage v h) next)
                       (λ l m i k. ask_usage w (Word v) l m e h i k))
                   | inr h ↦ subst (λ (b : Bool). ReadsAs text (outcome (cond b (asking end command.QueueUsage ahead) (Err at)))) (sym h)
-                      (stands-stop text (Word w ∷ []) selected token ahead s (λ i. absurd (cc)) (selected_none (Word v) f g h))
+                      (stands-stop text (Word w ∷ []) selected token ahead s (some-ways selected refl) (selected_none (Word v) f g h))
                 ])
           ])
     ]
@@ -257,14 +257,14 @@ selected_word text w v at ahead e s =
 select_front : (text w : List ℕ) (l : Lexeme) (at : ℕ) (ahead : List Token) → str_eq_ignore_ascii_case (codes "select") w ≡ true → (let token : Token = record { lexeme = l; at = at } in Stands text (Word w ∷ []) selected (token ∷ ahead))
     → (let token : Token = record { lexeme = l; at = at } in ReadsAs text (outcome (selecting (length text) (token ∷ ahead))))
 select_front text w (Word v) at ahead e s = selected_word text w v at ahead e s
-select_front text w (Quoted x) at ahead e s = let token : Token = record { lexeme = Quoted x; at = at } in stands-stop text (Word w ∷ []) selected token ahead s (λ i. absurd (cc)) refl
-select_front text w (Literal x) at ahead e s = let token : Token = record { lexeme = Literal x; at = at } in stands-stop text (Word w ∷ []) selected token ahead s (λ i. absurd (cc)) refl
-select_front text w (Number x) at ahead e s = let token : Token = record { lexeme = Number x; at = at } in stands-stop text (Word w ∷ []) selected token ahead s (λ i. absurd (cc)) refl
-select_front text w (Sign x) at ahead e s = let token : Token = record { lexeme = Sign x; at = at } in stands-stop text (Word w ∷ []) selected token ahead s (λ i. absurd (cc)) refl
-select_front text w Wrong at ahead e s = let token : Token = record { lexeme = Wrong; at = at } in stands-stop text (Word w ∷ []) selected token ahead s (λ i. absurd (cc)) refl
+select_front text w (Quoted x) at ahead e s = let token : Token = record { lexeme = Quoted x; at = at } in stands-stop text (Word w ∷ []) selected token ahead s (some-ways selected refl) refl
+select_front text w (Literal x) at ahead e s = let token : Token = record { lexeme = Literal x; at = at } in stands-stop text (Word w ∷ []) selected token ahead s (some-ways selected refl) refl
+select_front text w (Number x) at ahead e s = let token : Token = record { lexeme = Number x; at = at } in stands-stop text (Word w ∷ []) selected token ahead s (some-ways selected refl) refl
+select_front text w (Sign x) at ahead e s = let token : Token = record { lexeme = Sign x; at = at } in stands-stop text (Word w ∷ []) selected token ahead s (some-ways selected refl) refl
+select_front text w Wrong at ahead e s = let token : Token = record { lexeme = Wrong; at = at } in stands-stop text (Word w ∷ []) selected token ahead s (some-ways selected refl) refl
 
 select-reads : (text w : List ℕ) (ahead : List Token) → str_eq_ignore_ascii_case (codes "select") w ≡ true → Stands text (Word w ∷ []) selected ahead → ReadsAs text (outcome (selecting (length text) ahead))
-select-reads text w [] e s = stands-lack text (Word w ∷ []) selected s (λ i. absurd (cc)) refl
+select-reads text w [] e s = stands-lack text (Word w ∷ []) selected s (some-ways selected refl) refl
 select-reads text w (token ∷ ahead) e s = select_front text w token.lexeme token.at ahead e s
 
 -- no word of the table
@@ -277,7 +277,7 @@ no_word : (text w : List ℕ) (at : ℕ) (ahead : List Token) → (let token : T
 unfolding table
 no_word text w at ahead s e0 e1 e2 e3 e4 e5 e6 e7 e8 e9 e10 e11 =
     let token : Token = record { lexeme = Word w; at = at } in
-    stands-stop text [] table_slots token ahead s (λ h. absurd (cc)) (no_ways w e0 e1 e2 e3 e4 e5 e6 e7 e8 e9 e10 e11)
+    stands-stop text [] table_slots token ahead s (some-ways table_slots refl) (no_ways w e0 e1 e2 e3 e4 e5 e6 e7 e8 e9 e10 e11)
 
 -- the words that are tried from one on
 abbrev from_select : List ℕ → Option Verb
@@ -382,7 +382,7 @@ start_semicolon l t = sign-cases (λ l. start_ways_of l ≡ [] ∷ []) (byte ";"
 
 start_some : table_slots ≢ []
 unfolding table
-start_some h = absurd (cc)
+start_some = some-ways table_slots refl
 
 front_reads : (text : List ℕ) (l : Lexeme) (at : ℕ) (ahead : List Token) → (let token : Token = record { lexeme = l; at = at } in Stands text [] table_slots (token ∷ ahead)) → (fits_slot (Punct (byte ";")) l ≡ false → start_ways_of l ≡ [])
     → (let token : Token = record { lexeme = l; at = at } in ReadsAs text (outcome (closing (length text) command.Empty (token ∷ ahead))))

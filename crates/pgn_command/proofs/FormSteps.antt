@@ -102,6 +102,16 @@ pub only-fails : (slot : Slot) (ways : List (List Slot)) (lexeme : Lexeme) → f
 only-fails slot [] lexeme h = refl
 only-fails slot (way ∷ ways) lexeme h = rw h (only-fails slot ways lexeme h)
 
+-- there is a way
+abbrev pub is_way : List (List Slot) → Bool
+is_way [] = false
+is_way (way ∷ ways) = true
+
+-- where there is a way the ways are not none
+pub some-ways : (ways : List (List Slot)) → is_way ways ≡ true → ways ≢ []
+some-ways [] e h = absurd (false≢true e)
+some-ways (way ∷ ways) e h = absurd (cc)
+
 only-some : (slot : Slot) (ways : List (List Slot)) → ways ≢ [] → before_all slot ways ≢ []
 only-some slot [] h e = h refl
 only-some slot (way ∷ ways) h e = absurd (cc)

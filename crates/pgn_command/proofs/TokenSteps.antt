@@ -103,7 +103,7 @@ past-quoted at (b ∷ bytes) raw k h some =
     subst (λ (x : ℕ). tokens_from at 0 (x ∷ bytes) ≡ one (Quoted (single 34 raw)) at (tokens_from (at + (length raw + 2)) 0 (drop (length raw + 2) (x ∷ bytes)))) e
     (inside_quoted at bytes raw h some (subst (λ (x : ℕ). Starts start.Quoted (x ∷ bytes)) k.1 k))
 
--- the same of an identifier
+-- behind a double quote that no other closes nothing is read
 pub open-quoted : (at : ℕ) (rest : List ℕ) → Starts start.Quoted rest → closed 34 (drop 1 rest) ≡ None → IsStuck at rest
 open-quoted at [] k h = absurd k
 open-quoted at (b ∷ bytes) k h =
