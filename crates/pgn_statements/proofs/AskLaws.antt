@@ -10,7 +10,7 @@ use Rattle.pgn_requests.specs.declared.setting.Setting.TheVariants as setting
 use Rattle.pgn_requests.specs.Phrases.{going, is_one, value_of, given_asks, valued_asks, past_mode, past_comma, is_end, are_modes, setting_asks, assigned_asks, after_one, after_two}
 use Rattle.pgn_statements.specs.Lexemes.{GoesOn}
 use Rattle.pgn_statements.specs.Steps.{IsPut}
-use Rattle.pgn_statements.proofs.PlainLaws.{pick_no}
+use Rattle.pgn_bodies.proofs.PlainLaws.{pick_no}
 
 -- the same told in other words
 pub IfOk-same : {A E : Type 0} (result : Result A E) (one other : A) → one ≡ other → IfOk result (λ r. r ≡ one) → IfOk result (λ r. r ≡ other)

@@ -1,5 +1,4 @@
-pub mod PlainLaws
-pub mod Utf8Laws
+pub mod ShortLaws
 pub mod LexemeLaws
 pub mod StepLaws
 pub mod AskLaws

@@ -1,6 +1,4 @@
-ghost use Rattle.std.specs.Prelude.{◌≡◌, ◌≤◌, not, length, map, filter, option_map, IfOk, IfSome};
-ghost use Rattle.std.specs.Char.{is_ascii_alphanumeric};
-ghost use Rattle.pgn_language.specs.Tokens.{is_blank};
+ghost use Rattle.std.specs.Prelude.{◌≡◌, ◌≤◌, length, map, option_map, IfOk, IfSome};
 ghost use Rattle.pgn_requests.specs.declared.setting.Setting.TheVariants as setting;
 ghost use Rattle.pgn_requests.specs.Values.{accepted, chosen, closed_up, encoding, letters_of, only_on, shown_byte};
 
@@ -114,20 +112,13 @@ fn encoding_of(alloc: Global, letters: &[u8]) -> Result<Verdict, AllocError>
 fn letters_of(alloc: Global, bytes: &[u8]) -> Result<Vec<u8>, AllocError>
     ensures { IfOk result (λ made. made.items ≡ letters_of bytes.now) }
 {
-    let mut made = letters(alloc, bytes)?;
-    made.as_mut_slice().make_ascii_lowercase();
-    Ok(made)
-}
-
-fn letters(alloc: Global, bytes: &[u8]) -> Result<Vec<u8>, AllocError>
-    ensures { IfOk result (λ made. made.items ≡ filter is_ascii_alphanumeric bytes.now) }
-{
     let mut made = Vec::with_capacity(alloc, bytes.len())?;
     for byte in bytes {
         if byte.is_ascii_alphanumeric() {
             made.push(*byte)?;
         }
     }
+    made.as_mut_slice().make_ascii_lowercase();
     Ok(made)
 }
 
@@ -143,20 +134,13 @@ fn dates(alloc: Global, value: &str) -> Result<Verdict, AllocError>
 fn closed_up(alloc: Global, bytes: &[u8]) -> Result<Vec<u8>, AllocError>
     ensures { IfOk result (λ made. made.items ≡ closed_up bytes.now) }
 {
-    let mut made = unblanked(alloc, bytes)?;
-    made.as_mut_slice().make_ascii_lowercase();
-    Ok(made)
-}
-
-fn unblanked(alloc: Global, bytes: &[u8]) -> Result<Vec<u8>, AllocError>
-    ensures { IfOk result (λ made. made.items ≡ filter (λ b. not (is_blank b)) bytes.now) }
-{
     let mut made = Vec::with_capacity(alloc, bytes.len())?;
     for byte in bytes {
         if !is_blank(*byte) {
             made.push(*byte)?;
         }
     }
+    made.as_mut_slice().make_ascii_lowercase();
     Ok(made)
 }
 

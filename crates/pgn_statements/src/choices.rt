@@ -1,5 +1,6 @@
 ghost use Rattle.std.specs.Prelude.{◌≡◌, ◌≤◌, length, bytes_eq, option_map, IfSome};
 ghost use Rattle.pgn_requests.specs.Values.{date_style, float_digits, interval_style, isolation, message_level, older_style, says_off, says_on, switch};
+ghost use Rattle.pgn_statements.specs.Choices.{fewer_digits};
 
 use pgn_command::is_word;
 
@@ -214,6 +215,14 @@ pub fn float_digits(value: &[u8]) -> Option<&'static str>
     if is_text(value, "-5") {
         return Some("-5");
     }
+    fewer_digits(value)
+}
+
+// From -6 down.
+fn fewer_digits(value: &[u8]) -> Option<&'static str>
+    ensures value { option_map (λ text. text.now) result ≡ fewer_digits value.now }
+    ensures short { IfSome result (λ text. length text.now ≤ 16) }
+{
     if is_text(value, "-6") {
         return Some("-6");
     }

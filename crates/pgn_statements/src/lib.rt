@@ -3,7 +3,7 @@
 //! `read_request` gives exactly the request that `pgn_requests` defines for a body (`RequestIs`), which is always there and only one. Only
 //! want of memory is refused.
 //!
-//! A body is read in three steps: `body` finds its text, `bare` takes comments, line feeds and the end off it, and the grammar of
+//! A body is read in three steps: `pgn_bodies` finds its text, and takes comments, line feeds and the end off it, and the grammar of
 //! `pgn_command` reads what is left. What the grammar refuses is read once more by its tokens (`asking`): the settings and the other words that
 //! drivers send.
 #![tactic(auto)]
@@ -11,9 +11,6 @@
 mod accepting;
 mod asking;
 mod assigning;
-mod bare;
-mod body;
-mod byte_modes;
 mod calls;
 mod choices;
 mod complaining;

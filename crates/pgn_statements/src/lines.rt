@@ -1,11 +1,11 @@
-ghost use Rattle.std.specs.Prelude.{◌≡◌, ◌≤◌, cond, length, map, IfOk};
+ghost use Rattle.std.specs.Prelude.{◌≡◌, ◌≤◌, cond, length};
 ghost use Rattle.pgn_base.specs.declared.limits.TheConstants.{LINE_BYTES_MAX};
 ghost use Rattle.pgn_base.specs.declared.command.Command.TheVariants as command;
 ghost use Rattle.pgn_language.specs.Tokens.{tokens};
 ghost use Rattle.pgn_language.specs.Grammar.{limited};
 ghost use Rattle.pgn_language.specs.laws.Commands.{IsValid};
 ghost use Rattle.pgn_requests.specs.declared.complaint.Wording.TheVariants as wording;
-ghost use Rattle.pgn_requests.specs.Texts.{one_line, unbroken};
+ghost use Rattle.pgn_requests.specs.Texts.{one_line};
 ghost use Rattle.pgn_requests.specs.Reading.{bad_at, first_lexeme, read_line, worded};
 ghost use Rattle.pgn_requests.specs.Phrases.{unread, commanded, is_past_limit, notifies};
 ghost use Rattle.pgn_statements.specs.Lexemes.{meant};
@@ -14,10 +14,9 @@ ghost use Rattle.pgn_statements.specs.Steps.{Gives};
 
 use crate::calls::Call;
 use crate::words::is_key;
-use memchr::memchr;
 use pgn_base::Command;
+use pgn_bodies::one_line;
 use pgn_command::{Lexeme, Lexer, pg_notify};
-use pgn_language::LineText;
 use pgn_requests::{Request, Wording};
 use std::alloc::{AllocError, Global};
 
@@ -123,32 +122,4 @@ fn first_lexeme(text: &str) -> Lexeme<'_>
     let mut lexer = Lexer::new(text);
     let token = lexer.next();
     token.lexeme
-}
-
-// The text as one line.
-fn one_line(alloc: Global, text: &str) -> Result<LineText, AllocError>
-    ensures { IfOk result (λ line. line ≡ one_line text.now) }
-{
-    if memchr(b'\n', text.as_bytes()).is_none() {
-        return LineText::new(alloc, text);
-    }
-    let bytes = unbroken_bytes(alloc, text.as_bytes())?;
-    let made = String::from_utf8(bytes).unwrap();
-    LineText::new(alloc, made.as_str())
-}
-
-fn unbroken_bytes(alloc: Global, text: &[u8]) -> Result<Vec<u8>, AllocError>
-    ensures { IfOk result (λ made. made.items ≡ map unbroken text.now) }
-{
-    let mut made = Vec::with_capacity(alloc, text.len())?;
-    for byte in text {
-        made.push(unbroken(*byte))?;
-    }
-    Ok(made)
-}
-
-fn unbroken(byte: u8) -> u8
-    ensures { result ≡ unbroken byte }
-{
-    if byte == b'\n' { b' ' } else { byte }
 }

@@ -40,7 +40,11 @@ fn put_value(alloc: Global, text: &mut String, lexeme: &Lexeme<'_>) -> Result<bo
             put_lower(alloc, text, word)?;
             Ok(true)
         }
-        Lexeme::Quoted(inside) | Lexeme::Literal(inside) => {
+        Lexeme::Quoted(inside) => {
+            put_unquoted(alloc, text, inside)?;
+            Ok(true)
+        }
+        Lexeme::Literal(inside) => {
             put_unquoted(alloc, text, inside)?;
             Ok(true)
         }
@@ -57,8 +61,7 @@ fn put_lower(alloc: Global, text: &mut String, word: &str) -> Result<(), AllocEr
     ensures { OnOk result (string_bytes text.new ≡ string_bytes text.old ++ str_to_ascii_lowercase word.now) }
 {
     let lower = word.to_ascii_lowercase(alloc)?;
-    text.push_str(lower.as_str())?;
-    Ok(())
+    text.push_str(lower.as_str())
 }
 
 // What stands between quotes, each quote in it once.
@@ -66,6 +69,5 @@ fn put_unquoted(alloc: Global, text: &mut String, inside: &Enclosed<'_>) -> Resu
     ensures { OnOk result (string_bytes text.new ≡ string_bytes text.old ++ single inside.now.quote inside.now.raw.now) }
 {
     let made = unquoted(alloc, *inside)?;
-    text.push_str(made.as_str())?;
-    Ok(())
+    text.push_str(made.as_str())
 }

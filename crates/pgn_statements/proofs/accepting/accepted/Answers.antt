@@ -1,5 +1,5 @@
 use Rattle.std.proofs.Common.{length, ap, arith}
-use Rattle.pgn_statements.proofs.Utf8Laws.{cut-few}
+use Rattle.pgn_statements.proofs.ShortLaws.{cut-few}
 use Rattle.pgn_statements.proofs.accepting.accepted.Goals as goal
 
 pub becomes-requires : goal.becomes-requires

@@ -2,7 +2,7 @@ use Rattle.std.proofs.Common.{◌≡◌, ℕ, List, map, length, ap, ◌∙◌, 
 use Rattle.std.proofs.lemmas.List.{length-map}
 use Rattle.pgn_language.specs.Grammar as grammar
 use Rattle.pgn_requests.specs.Values.{shown_byte}
-use Rattle.pgn_statements.proofs.Utf8Laws.{cut-few, shown-text}
+use Rattle.pgn_statements.proofs.ShortLaws.{cut-few, shown-text}
 use Rattle.pgn_statements.proofs.accepting.application_name.Goals as goal
 
 pub unwrap-made-requires : goal.unwrap-made-requires

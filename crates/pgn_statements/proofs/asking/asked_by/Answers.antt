@@ -2,7 +2,7 @@ use Rattle.std.proofs.Common.{◌∷◌, sym, ◌∙◌}
 use Rattle.std.specs.Prelude.{codes}
 use Rattle.pgn_requests.specs.Phrases as told
 use Rattle.pgn_statements.specs.Lexemes.{meant, all_meant}
-use Rattle.pgn_statements.proofs.PlainLaws.{pick_no}
+use Rattle.pgn_bodies.proofs.PlainLaws.{pick_no}
 use Rattle.pgn_statements.proofs.AskLaws.{IfOk-same, pick_yes}
 use Rattle.pgn_statements.proofs.asking.asked_by.Goals as goal
 

@@ -1,5 +1,5 @@
 use Rattle.std.proofs.Common.{ℕ, List, length, ◌≤◌, sym, subst}
-use Rattle.pgn_statements.proofs.Utf8Laws.{cut-few}
+use Rattle.pgn_statements.proofs.ShortLaws.{cut-few}
 use Rattle.pgn_statements.proofs.complaining.told_value.Goals as goal
 
 pub returns-clause-short : goal.returns-clause-short
