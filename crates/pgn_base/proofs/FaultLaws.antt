@@ -14,6 +14,7 @@ fault-is f e q = cc
 pub fault-not : {A E : Type 0} (f e : E) → (f ≡ e → ⊥) → IsErrOf {T = A} (Err f) e → ⊥
 fault-not f e differ q = differ (fault-is f e q)
 
+-- an error is the same fault in a result of another type
 pub fault-moved : {A B E : Type 0} (f e : E) → IsErrOf {T = A} (Err f) e → IsErrOf {T = B} (Err f) e
 fault-moved f e q = let same : f ≡ e = fault-is f e q in cc
 
@@ -26,11 +27,13 @@ pub err-held : {A E : Type 0} (r : Result A E) (f : E) → IsErrAnd r (λ e. e �
 err-held (Ok x) f h = absurd h
 err-held (Err e) f h = ap Err h
 
+-- where a result holds an error, its fault is that of the error by itself
 pub fault-held : {A B E P : Type 0} (r : Result B E) (f e : E) → IsErrAnd r (λ g. g ≡ f) → (IsErrOf {T = A} (Err f) e ↔ P) → IsErrOf r e ↔ P
 fault-held r f e is h =
     let held : r ≡ Err f = err-held r f is in
     (λ q. h.0 (fault-moved f e (sym held ∙ q)), λ p. held ∙ fault-moved f e (h.1 p))
 
+-- and it has no fault that the error does not have
 pub held-not : {A B E : Type 0} (r : Result B E) (f e : E) → IsErrAnd r (λ g. g ≡ f) → (IsErrOf {T = A} (Err f) e → ⊥) → IsErrOf r e → ⊥
 held-not r f e is differ q = differ (fault-moved f e (sym (err-held r f is) ∙ q))
 
@@ -59,6 +62,7 @@ pub held-ok : {A E : Type 0} (r : Result A E) (P : A → Type 0) → IsErr r →
 held-ok (Ok x) P is = absurd (false≢true is)
 held-ok (Err e) P is = tt
 
+-- what is so is so of a result's error
 pub held-err : {A E : Type 0} (r : Result A E) (P : Type 0) → P → OnErr r P
 held-err (Ok x) P p = tt
 held-err (Err e) P p = p
@@ -68,6 +72,7 @@ pub none-of : (bytes : List ℕ) (b : Bool) → b ≡ (length bytes == 0) → b 
 none-of [] b e t = refl
 none-of (x ∷ xs) b e t = let zero : length (x ∷ xs) ≡ 0 = eqb-true (length (x ∷ xs)) 0 (sym e ∙ t) in absurd (omega (arith, zero))
 
+-- and it has a byte where it is not empty
 pub some-of : (bytes : List ℕ) (b : Bool) → b ≡ (length bytes == 0) → b ≡ false → 0 < length bytes
 some-of [] b e f = absurd (false≢true (sym f ∙ e))
 some-of (x ∷ xs) b e f = omega arith

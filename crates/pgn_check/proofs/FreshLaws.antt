@@ -49,6 +49,7 @@ near_same terms journal mark old s e h = (
 pub up_none : (terms : Terms) (journal : List Tx) (at : Standing) → at.mark ≡ None → Asks terms.section journal at true (λ s. IsUpToDate terms journal s)
 up_none terms journal at e s h = (λ _. subst (λ (m : Option ℕ). IfSome m (λ own. Near terms.settings.format (is_due_to terms.section.db s.set) journal own s.told)) (sym (h.mark ∙ e)) tt, λ _. refl)
 
+-- a mark stands so few pages behind a place that its session need not be woken for that alone
 abbrev pub IsClose : Terms → List Tx → ℕ → ℕ → Type 0
 IsClose terms journal mark x = page_of (place terms.settings.format journal x) < page_of (place terms.settings.format journal mark) + CLEANUP_DELAY_PAGES
 

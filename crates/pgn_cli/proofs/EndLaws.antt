@@ -41,6 +41,7 @@ pub of-ok-and : {T : Type 0} (words : Result T NoWords) (of : T → List (List �
 of-ok-and (Ok w) of P h = h
 of-ok-and (Err why) of P h = h
 
+-- and what holds of the texts, if they are there, holds of the words
 pub of-if-ok : {T : Type 0} (words : Result T NoWords) (of : T → List (List ℕ)) (P : List (List ℕ) → Type 0) → IfOk (texts_of words of) P → IfOk words (λ w. P (of w))
 of-if-ok (Ok w) of P h = h
 of-if-ok (Err why) of P h = h

@@ -265,6 +265,7 @@ quit-done {P} shape known old two new step done is_open same moved e idled =
 pub put-asks : {P : Type 0} (old new : Desk P) → new ≡ record old { session = new.session; notes = new.notes } → new.asks ≡ old.asks
 put-asks {P} old new e = ap (λ (d : Desk P). d.asks) e
 
+-- its settings stay too
 pub put-settings : {P : Type 0} (old new : Desk P) → new ≡ record old { session = new.session; notes = new.notes } → new.settings ≡ old.settings
 put-settings {P} old new e = ap (λ (d : Desk P). d.settings) e
 

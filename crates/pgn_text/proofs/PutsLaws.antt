@@ -111,6 +111,7 @@ written : (start held now : Option (List ℕ)) (kept before text all : List ℕ)
 written start held now kept before text all (Ok x) e w h = GrewBut-written start held now kept before text all e w h
 written start held now kept before text all (Err d) e w h = AppendsPrefix-written start held now kept before text all e w h
 
+-- and so is the text put out, where nothing is kept back any more
 pub Puts-written : {S : Type 0} (held : S → Option (List ℕ)) (faults : S → ℕ) (sink sink_now : S) (kept now : List ℕ) (so_far result : Result Unit Failed) (text all : List ℕ) → is_err so_far ≡ false → now ≡ [] → kept ++ text ≡ all
     → Writes (held sink) (held sink_now) result all → HasCause (faults sink) (faults sink_now) result
     → Puts held faults sink (record { kept = kept; so_far = so_far }) sink_now (record { kept = now; so_far = result }) text

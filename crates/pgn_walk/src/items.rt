@@ -1,4 +1,4 @@
-ghost use Rattle.std.specs.Prelude.{◌≡◌, ◌↔◌, ◌≤◌, ℕ, max, true, false, Option, Some, None, List, IfOk, OnOk, IfSome, IsSomeAnd};
+ghost use Rattle.std.specs.Prelude.{◌≡◌, ◌↔◌, ◌≤◌, ℕ, max, true, false, Some, None, List, IfOk, OnOk, IfSome, IsSomeAnd};
 ghost use Rattle.pgn_base.specs.declared.note.Note.{Note};
 ghost use Rattle.pgn_journal.specs.Journal.{entry, next_xid};
 ghost use Rattle.pgn_language.specs.declared.scenario.Section.{Section};

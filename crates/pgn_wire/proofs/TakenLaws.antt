@@ -45,6 +45,7 @@ open-quits s h =
     let long : length s.section.lines ≡ length (h.ends.front ++ h.ends.last ∷ []) = ap (λ (ls : List ScriptLine). length ls) h.ends.split in
     omega (arith, long, h.begun, length-append h.ends.front (h.ends.last ∷ []))
 
+-- a line that runs a command is no `\quit`
 pub runs-on : (line : ScriptLine) → RunsCommand line → line.act ≢ Quit
 runs-on line runs is = let both : Run runs.0 ≡ Quit = sym runs.1 ∙ is in let no : ⊥ = cc in no
 
@@ -52,6 +53,7 @@ runs-on line runs is = let both : Run runs.0 ≡ Quit = sym runs.1 ∙ is in let
 pub fed-section : {P : Type 0} (old new : Session P) (line : ScriptLine) → new ≡ record old { section = fed old.section line } → new.section ≡ fed old.section line
 fed-section {P} old new line e = ap (λ (s : Session P). s.section) e
 
+-- it serves the same client
 pub client-fed : {P : Type 0} (old new : Session P) (line : ScriptLine) → new ≡ record old { section = fed old.section line } → IsSameClient old new
 client-fed {P} old new line e = record {
   section = ap (λ (s : Session P). s.section) e ∙ ap (λ (ls : List ScriptLine). record old.section { lines = ls }) (sym (ap (λ (s : Session P). s.section.lines) e));
@@ -59,16 +61,20 @@ client-fed {P} old new line e = record {
   patience = ap (λ (s : Session P). s.patience) e;
 }
 
+-- and so does one that stayed as it was
 pub client-same : {P : Type 0} (old new : Session P) → new ≡ old → IsSameClient old new
 client-same {P} old new e = subst (λ (s : Session P). IsSameClient old s) (sym e) (record { section = refl; plan = refl; patience = refl })
 
+-- a session that was not fed has stopped as it stood
 pub not-fed : {P : Type 0} (shape : Shape) (known : P → Known) (old new : Session P) → new ≡ old → HasRest shape known old → HasStopped shape known old new
 not-fed {P} shape known old new e rested =
     subst (λ (s : Session P). HasStopped shape known old s) (sym e) (record { stood = stood-rest shape known old rested; behind = []; shown = sym (append-nil old.items.items); line = tt; same = refl })
 
+-- its pass is still the hub's
 pub same-own : {P : Type 0} (is_own : P → Type 0) (old new : Session P) → new ≡ old → is_own old.pass → is_own new.pass
 same-own {P} is_own old new e h = subst (λ (s : Session P). is_own s.pass) (sym e) h
 
+-- and its section is the same
 pub same-section : {P : Type 0} (old new : Session P) → new ≡ old → new.section ≡ old.section
 same-section {P} old new e = ap (λ (s : Session P). s.section) e
 
@@ -76,6 +82,7 @@ same-section {P} old new e = ap (λ (s : Session P). s.section) e
 pub read-section : {P : Type 0} (old new : Session P) → new ≡ record old { pass = new.pass; items = new.items } → new.section ≡ old.section
 read-section {P} old new e = ap (λ (s : Session P). s.section) e
 
+-- and it serves the same client as before it was fed
 pub client-read : {P : Type 0} (old mid new : Session P) → IsSameClient old mid → new ≡ record mid { pass = new.pass; items = new.items } → IsSameClient old new
 client-read {P} old mid new h e = record {
   section = ap (λ (s : Session P). s.section) e ∙ h.section ∙ ap (λ (ls : List ScriptLine). record old.section { lines = ls }) (sym (ap (λ (s : Session P). s.section.lines) e));
@@ -83,6 +90,7 @@ client-read {P} old mid new h e = record {
   patience = ap (λ (s : Session P). s.patience) e ∙ h.patience;
 }
 
+-- two reads are one
 pub read-both : {P : Type 0} (old mid new : Session P) → mid ≡ record old { pass = mid.pass; items = mid.items } → new ≡ record mid { pass = new.pass; items = new.items } → new ≡ record old { pass = new.pass; items = new.items }
 read-both {P} old mid new h e = e ∙ ap (λ (s : Session P). record s { pass = new.pass; items = new.items }) h
 

@@ -1,4 +1,4 @@
-use Rattle.std.proofs.Common.{◌≡◌, ◌∙◌, ℕ, List, [], length, Contains, sym, ap, arith}
+use Rattle.std.proofs.Common.{◌≡◌, ◌∙◌, [], length, Contains, sym, ap, arith}
 use Rattle.std.proofs.lemmas.Bool.{false≢true}
 use Rattle.pgn_base.specs.declared.name.NameFault.TheVariants.{Empty, TooLong, Nul, Memory}
 use Rattle.pgn_base.proofs.FaultLaws.{fault-differs, fault-here, fault-passed, fault-not, ok-fault, none-of, some-of}

@@ -1,4 +1,4 @@
-use Rattle.std.proofs.Common.{◌≡◌, ℕ, ◌<◌, ◌≤◌, ◌-◌, inl, Result, Ok, Err, IsErr, List, [], ◌++◌, Option, Some, None, length, take, drop, refl, sym, ◌∙◌, subst, append-nil, take-append-drop, arith}
+use Rattle.std.proofs.Common.{◌≡◌, ℕ, ◌<◌, ◌≤◌, ◌-◌, inl, Result, Ok, Err, IsErr, List, [], Option, Some, None, length, take, drop, refl, sym, ◌∙◌, subst, append-nil, take-append-drop, arith}
 use Rattle.std.proofs.lemmas.Bool.{false≢true}
 use Rattle.std.proofs.lemmas.List.{take_rest}
 use Rattle.std.specs.Io.KnownBytes.{Appends, Keeps}

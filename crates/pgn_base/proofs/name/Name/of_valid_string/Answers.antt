@@ -1,4 +1,4 @@
-use Rattle.std.proofs.Common.{◌≡◌, ℕ, List, sym, subst}
+use Rattle.std.proofs.Common.{ℕ, List, sym, subst}
 use Rattle.pgn_base.specs.Texts.{IsName}
 use Rattle.pgn_base.proofs.FaultLaws.{held-ok, held-err}
 use Rattle.pgn_base.proofs.name.Name.of_valid_string.Goals as goal
