@@ -1,5 +1,5 @@
 -- Places of what was sent, and their lists.
-use Rattle.std.proofs.Common.{◌≡◌, ℕ, zero, suc, ◌+◌, ◌<◌, ◌≤◌, Bool, true, false, ◌&&◌, ◌==◌, cond, List, [], ◌∷◌, ◌++◌, length, get_or, take, Option, None, Some, slice_get, refl, sym, ap, ◌∙◌, subst, inl, inr, arith}
+use Rattle.std.proofs.Common.{◌≡◌, ℕ, zero, suc, ◌+◌, ◌<◌, ◌≤◌, Bool, true, false, ◌&&◌, ◌==◌, cond, List, [], ◌∷◌, ◌++◌, length, get_or, take, Option, None, Some, slice_get, refl, sym, ap, ◌∙◌, subst, inl, inr, arith, length-append}
 use Rattle.std.proofs.Math.Dec.{ltb}
 use Rattle.std.specs.Cmp.{IsEquivalence}
 use Rattle.std.specs.Prelude.{bytes_eq}
@@ -7,7 +7,7 @@ use Rattle.std.specs.Global.{Vec}
 use Rattle.std.specs.Map.{lookup}
 use Rattle.std.proofs.lemmas.Cmp.{nat_eq_equiv, nat_list_eq_equiv}
 use Rattle.std.proofs.lemmas.Bool.{and_from, and_parts, cases_Bool, cases_lt, false≢true, ltb-false, ltb-true}
-use Rattle.std.proofs.lemmas.List.{append-nil, length-take}
+use Rattle.std.proofs.lemmas.List.{append-nil, get_or_append_left, get_or_push, length-take}
 use Rattle.std.proofs.lemmas.Option.{get_or_from_slice_get, none-some, slice_get-get_or, slice_get_within}
 use Rattle.std.specs.List.Sorted.{IsNonDecreasingBy, IsPartitionPoint}
 use Rattle.pgn_due.specs.Places.{IsFirst, passes, places}
@@ -199,3 +199,25 @@ first_nowhere sent entries topic from h none =
 pub record AreAfterTo (sent : List (ℕ × Delivery)) (count : ℕ) (after : List (Option ℕ)) : Type 0 where
   pub counted : length after ≡ count
   pub each : (at : ℕ) (one : ℕ × Delivery) → at < count → slice_get sent at ≡ Some one → IsFirst (is_on one.0 one.1.note.channel) sent (at + 1) (get_or after at None)
+
+-- and for one more
+pub after_more : (sent : List (ℕ × Delivery)) (at : ℕ) (after new : List (Option ℕ)) (one : ℕ × Delivery) (next : Option ℕ) → slice_get sent at ≡ Some one → IsFirst (is_on one.0 one.1.note.channel) sent (at + 1) next → new ≡ after ++ next ∷ []
+    → AreAfterTo sent at after → AreAfterTo sent (at + 1) new
+after_more sent at after new one next is first push h =
+    let none : Option ℕ = None in
+    record {
+      counted = omega (arith, ap (λ (xs : List (Option ℕ)). length xs) push, length-append after (next ∷ []), h.counted);
+      each = λ k other lt there. elim (cases_lt k at) as (λ _. IsFirst (is_on other.0 other.1.note.channel) sent (k + 1) (get_or new k none)) [
+        | inl before ↦
+            subst (λ (o : Option ℕ). IsFirst (is_on other.0 other.1.note.channel) sent (k + 1) o)
+            (sym (ap (λ (xs : List (Option ℕ)). get_or xs k none) push ∙ get_or_append_left after (next ∷ []) none k (omega (arith, before, h.counted)))) (h.each k other before there)
+        | inr behind ↦
+            let here : at ≡ k = omega (arith, behind, lt) in
+            let both : Some one ≡ Some other = sym is ∙ ap (λ (m : ℕ). slice_get sent m) here ∙ there in
+            let same : one ≡ other = cc in
+            subst (λ (o : Option ℕ). IsFirst (is_on other.0 other.1.note.channel) sent (k + 1) o)
+            (sym (ap (λ (xs : List (Option ℕ)). get_or xs k none) push ∙ get_or_push after next none k (omega (arith, here, h.counted))))
+            (subst (λ (m : ℕ). IsFirst (is_on other.0 other.1.note.channel) sent (m + 1) next) here
+            (subst (λ (x : ℕ × Delivery). IsFirst (is_on x.0 x.1.note.channel) sent (at + 1) next) same first))
+      ];
+    }

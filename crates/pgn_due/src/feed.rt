@@ -79,9 +79,19 @@ fn first_of(
         → IsFirst (is_on db channel.now) sent from found) }
 {
     let topic = Topic::new(alloc, db, channel)?;
-    match lists.get(&topic) {
-        Some(list) => Ok(first_in(list, from)),
-        None => Ok(None),
+    let found = first_at(lists, &topic, from);
+    drop(topic);
+    Ok(found)
+}
+
+// The same, of a channel.
+fn first_at(lists: &Lists, topic: &Topic, from: usize) -> Option<usize>
+    ensures { (sent : List (ℕ × Delivery)) → AreLists sent lists.now.entries
+        → IsFirst (is_on topic.now.db topic.now.channel) sent from result }
+{
+    match lists.get(topic) {
+        Some(list) => first_in(list, from),
+        None => None,
     }
 }
 
@@ -95,7 +105,8 @@ fn after_of(alloc: Global, sends: &Sends, lists: &Lists) -> Result<Vec<Option<us
     let mut after = Vec::with_capacity(alloc, sends.len())?;
     for at in 0..sends.len() {
         let sent = sends.at(at);
-        after.push(first_of(alloc, lists, sent.tx.db, &sent.note.channel, at + 1)?)?;
+        let next = first_of(alloc, lists, sent.tx.db, &sent.note.channel, at + 1)?;
+        after.push(next)?;
     }
     Ok(after)
 }
