@@ -1,16 +1,14 @@
 -- The definitions of this crate refuse the small cases.
-use Rattle.std.proofs.Common.{◌≡◌, ℕ, ◌≤◌, max, Bool, true, false, get_or, [], ◌∷◌, List, length, Option, Some, None, Contains, refl, ap, arith}
-use Rattle.std.proofs.lemmas.List.Elements.{All-nil, All-head}
-use Rattle.std.proofs.Math.Nat.{max-le}
+use Rattle.std.proofs.Common.{◌≡◌, ℕ, ◌≤◌, Bool, true, false, get_or, [], ◌∷◌, List, length, Option, Some, None, refl, ap, arith}
+use Rattle.std.proofs.lemmas.List.Elements.{All-head}
 use Rattle.pgn_base.specs.declared.format.Format.{Format}
 use Rattle.pgn_base.specs.declared.format.Format.TheVariants.{One}
 use Rattle.pgn_base.specs.declared.note.Delivery.{Delivery}
 use Rattle.pgn_journal.specs.declared.tx.Tx.{Tx}
-use Rattle.pgn_hub.specs.declared.known.Known.{Known}
-use Rattle.pgn_journal.specs.Packing.{page_of, place, image, image_from}
+use Rattle.pgn_journal.specs.Packing.{image, image_from}
 use Rattle.pgn_journal.specs.Pieces.{Piece, AFiller, piece_bytes, number_of, IsNumbered}
 use Rattle.pgn_journal.proofs.BytesLemmas.{length-spelled}
-use Rattle.pgn_journal.proofs.PackingLemmas.{entry_whole, first_place}
+use Rattle.pgn_journal.proofs.PackingLemmas.{entry_whole}
 use Rattle.pgn_journal.proofs.PieceLaws.{first_cells}
 use Rattle.pgn_hub.specs.Examples.{two_seats, note_a, tx_3, got_a}
 use Rattle.pgn_words.specs.declared.view.View.{View}
@@ -24,9 +22,9 @@ use Rattle.pgn_wordhub.specs.Wakes.{IsWaiting, AreConcerned, IsAtHead}
 use Rattle.pgn_wordhub.specs.Placing.{IsPlacing, HasWritten, IsHeldUp}
 use Rattle.pgn_wordhub.specs.Floors.{IsFloorOf}
 use Rattle.pgn_wordhub.specs.Looks.{HasCome, HasSeenFirst, HasSeenSecond, HasSeenSome}
-use Rattle.pgn_wordhub.specs.Advancing.{HasAdvancedTo, HasTried, HasFreedTo, HasGivenUp, IsFreed, HasTriedTail}
+use Rattle.pgn_wordhub.specs.Advancing.{HasAdvancedTo, HasTried}
 use Rattle.pgn_wordhub.specs.Finishing.{HasCommitted, HasEnded}
-use Rattle.pgn_wordhub.specs.Examples.{first_pass, third_pass, told_of_3, with_mark, stored_one, writing, undecided_one, loaded_one, aborted_one, first_look, tail_is_late, one_seen, one_joins, both_seen, seen_once, one_met, none_freed, one_page, sender_3, other_db, far_sender}
+use Rattle.pgn_wordhub.specs.Examples.{first_pass, third_pass, told_of_3, stored_one, writing, undecided_one, loaded_one, aborted_one, first_look, tail_is_late, one_seen, none_freed, sender_3, other_db, far_sender}
 use Rattle.pgn_wordhub.proofs.WayLaws.{cell_of}
 
 pub no_holder : IsHubView two_seats holder → ⊥
@@ -164,69 +162,6 @@ no_page_kept mark at holder h = let kept = h.kept in omega (arith, kept)
 pub not_told_by_looks : HasTried first_pass told_of_3 → ⊥
 not_told_by_looks h = let told = ap (λ (v : View). v.known.told) h.view in omega (arith, told)
 
-pub frees_one : HasFreedTo two_seats [] both_seen 0 1
-frees_one =
-    let first = first_place One [] in record {
-      named = [];
-      named_is = refl;
-      looked = record {
-        first_look = refl;
-        second_look = refl;
-        own_first = All-nil (λ (pair : ℕ × ℕ). pair.0 ≡ 1 → None ≡ Some pair.1);
-        own_second = All-nil (λ (pair : ℕ × ℕ). pair.0 ≡ 1 → None ≡ Some pair.1);
-        own_met = tt;
-      };
-      met = All-nil (Contains {X = ℕ × ℕ} []);
-      mark = 3;
-      holder = None;
-      floor = record { below = omega arith; least = All-nil (λ (pair : ℕ × ℕ). 3 ≤ pair.1); held = refl };
-      floor_kept = omega (arith, first);
-      no_more = All-nil (λ (pair : ℕ × ℕ). 1 ≤ max 0 (page_of (place One [] pair.1)));
-      second = refl;
-      all = refl;
-      greater = refl;
-      stop = refl;
-    }
-
-pub frees_none : HasFreedTo two_seats [] none_freed 0 0 → ⊥
-frees_none h = let greater = h.greater in omega (arith, greater)
-
-pub frees_after_all : HasFreedTo two_seats [] one_seen 0 1 → ⊥
-frees_after_all h = let all = h.all in omega (arith, all)
-
-pub frees_after_both : HasFreedTo two_seats [] seen_once 0 1 → ⊥
-frees_after_both h = let long = h.looked.second_look in omega (arith, long)
-
-pub frees_before_all : HasFreedTo two_seats [] one_met 0 1 → ⊥
-frees_before_all h =
-    let first = first_place One [] in
-    let low = All-head (λ (pair : ℕ × ℕ). 1 ≤ max 0 (page_of (place One [] pair.1))) (2, 3) [] h.no_more in
-    let none : max 0 (page_of (place One [] 3)) ≤ page_of (place One [] 3) = max-le (omega arith) (omega arith) in omega (arith, low, none, first)
-
-pub gives_up : HasGivenUp two_seats one_joins 0 2
-gives_up = record { second = refl; left = omega arith; joins = refl; there = refl; stop = refl }
-
-pub no_other_joiner : HasGivenUp two_seats one_joins 0 1 → ⊥
-no_other_joiner h = let there = h.there in omega (arith, there)
-
-pub none_joins : HasGivenUp two_seats one_seen 0 2 → ⊥
-none_joins h = let joins = h.joins in absurd (cc)
-
-pub none_left_to_join : HasGivenUp two_seats none_freed 0 3 → ⊥
-none_left_to_join h = let left = h.left in omega (arith, left)
-
-pub freed_one : IsFreed two_seats [] both_seen one_page
-freed_one = record { from_is = refl; did = frees_one }
-
-pub not_from_the_end : IsFreed two_seats [] both_seen (record one_page { from = 1 }) → ⊥
-not_from_the_end h = let from = h.from_is in omega (arith, from)
-
-pub none_beside_a_joiner : IsFreed two_seats [] both_seen (record one_page { joiner = Some 3 }) → ⊥
-none_beside_a_joiner h = let same = h.did.1 in omega (arith, same)
-
-pub no_mark_moved : HasTriedTail first_pass.known with_mark.known → ⊥
-no_mark_moved h = let mark = ap (λ (k : Known). k.mark) h.known in absurd (cc)
-
 pub not_signalling : IsWaiting two_seats holder → ⊥
 not_signalling h = let phase = h.phase in absurd (cc)
 
@@ -262,7 +197,7 @@ pub ruleset refused_writers = (not_unshown, not_ahead, not_told, not_all, no_pag
 pub ruleset refused_looks = (not_past_the_number, own_seat_shows, own_seat_shows_none, no_seat_left_out, not_the_second, no_late_tail, not_the_first)
 
 -- what no advance does
-pub ruleset refused_advances = (all_seats, no_page_kept, not_told_by_looks, frees_one, frees_none, frees_after_all, frees_after_both, frees_before_all, gives_up, no_other_joiner, none_joins, none_left_to_join, freed_one, not_from_the_end, none_beside_a_joiner, no_mark_moved)
+pub ruleset refused_advances = (all_seats, no_page_kept, not_told_by_looks)
 
 -- what no writer that wakes knows or does
 pub ruleset refused_wakes = (not_signalling, both_seats, not_loaded, not_by_its_own, not_by_none, at_the_head)

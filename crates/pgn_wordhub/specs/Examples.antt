@@ -1,5 +1,5 @@
 -- Small cases that the definitions of this crate refuse, and a few that they meet.
-use Rattle.std.specs.Prelude.{true, false, ◌*◌, ◌^◌, [], ◌∷◌, Some, None}
+use Rattle.std.specs.Prelude.{true, false, ◌*◌, ◌^◌, [], ◌∷◌, Some}
 use Rattle.pgn_journal.specs.Packing.{Sender}
 use Rattle.pgn_journal.specs.declared.tx.Fate.TheVariants.{Aborted}
 use Rattle.pgn_hub.specs.Passes.{opened_pass}
@@ -9,7 +9,6 @@ use Rattle.pgn_words.specs.declared.view.Phase.TheVariants.{Open, Signalling}
 use Rattle.pgn_words.specs.declared.view.Verdict.TheVariants.{Unseen}
 use Rattle.pgn_words.specs.declared.view.Look.TheVariants.{First, Second}
 use Rattle.pgn_words.specs.Views.{opened_view, no_tx, no_eye}
-use Rattle.pgn_wordhub.specs.declared.looks.Freed.{Freed}
 
 -- the first session's pass as it is opened
 abbrev pub first_pass : View
@@ -22,10 +21,6 @@ third_pass = record first_pass { known = opened_pass 3 seat }
 -- the same, once it was told of transaction 3
 abbrev pub told_of_3 : View
 told_of_3 = record first_pass { known = record (opened_pass 1 seat) { told = 4 } }
-
--- the same, with a mark
-abbrev pub with_mark : View
-with_mark = record first_pass { known = record (opened_pass 1 seat) { mark = Some 3 } }
 
 -- it has an open transaction, and has stored a cell past the head
 abbrev pub stored_one : View
@@ -59,33 +54,13 @@ tail_is_late = record first_pass { eye = record no_eye { look = Second; least = 
 abbrev pub one_seen : View
 one_seen = record first_pass { eye = record no_eye { look = Second; looked = 1; target = 2048 } }
 
--- the same, once it has found a session that joins at the other seat
-abbrev pub one_joins : View
-one_joins = record one_seen { eye = record one_seen.eye { joins = Some 1 } }
-
--- its second look has come over both seats and met nobody, page 1 is the first that is needed, and the pages before it may be used again
-abbrev pub both_seen : View
-both_seen = record first_pass {
-  stop = 1;
+-- its second look has come over both seats and met nobody, page 1 is the first that is needed, and both pages are kept
+abbrev pub none_freed : View
+none_freed = record first_pass {
+  stop = 0;
   eye = record no_eye { look = Second; looked = 2; target = 2048 };
   known = record (opened_pass 1 seat) { advance = met_nobody };
 }
-
--- the same, with no seat in what the second look has loaded
-abbrev pub seen_once : View
-seen_once = record both_seen { known = record (opened_pass 1 seat) { advance = record met_nobody { second = [] } } }
-
--- the same, where the second look has met a listener that stands on the first page
-abbrev pub one_met : View
-one_met = record both_seen { known = record (opened_pass 1 seat) { named = (2, 3) ∷ []; advance = record met_nobody { second = None ∷ Some 3 ∷ [] } } }
-
--- the same, with both pages kept
-abbrev pub none_freed : View
-none_freed = record both_seen { stop = 0 }
-
--- one page was freed
-abbrev pub one_page : Freed
-one_page = record { from = 0; to = 1; joiner = None }
 
 -- two sessions, as senders of transaction 3 and of one in another database
 abbrev pub sender_3 : Sender

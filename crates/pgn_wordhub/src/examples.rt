@@ -15,9 +15,9 @@ ghost use Rattle.pgn_wordhub.specs.Wakes.{IsWaiting, AreConcerned, IsAtHead};
 ghost use Rattle.pgn_wordhub.specs.Placing.{IsPlacing, HasWritten, IsHeldUp};
 ghost use Rattle.pgn_wordhub.specs.Floors.{IsFloorOf};
 ghost use Rattle.pgn_wordhub.specs.Looks.{HasCome, HasSeenFirst, HasSeenSecond, HasSeenSome};
-ghost use Rattle.pgn_wordhub.specs.Advancing.{HasAdvancedTo, HasTried, HasFreedTo, HasGivenUp, IsFreed, HasTriedTail};
+ghost use Rattle.pgn_wordhub.specs.Advancing.{HasAdvancedTo, HasTried};
 ghost use Rattle.pgn_wordhub.specs.Finishing.{HasCommitted, HasEnded};
-ghost use Rattle.pgn_wordhub.specs.Examples.{first_pass, third_pass, told_of_3, with_mark, stored_one, writing, undecided_one, loaded_one, aborted_one, first_look, tail_is_late, one_seen, one_joins, both_seen, seen_once, one_met, none_freed, one_page, sender_3, other_db, far_sender};
+ghost use Rattle.pgn_wordhub.specs.Examples.{first_pass, third_pass, told_of_3, stored_one, writing, undecided_one, loaded_one, aborted_one, first_look, tail_is_late, one_seen, none_freed, sender_3, other_db, far_sender};
 
 /// What is no pass of a hub between calls.
 #[tactic(auto, using(crate::proofs::RefusedCases::refused_passes))]
@@ -103,31 +103,13 @@ pub fn looks()
     ensures first_for_the_second { HasSeenSome first_look first_look → ⊥ }
 {}
 
-/// What is no advance of the tail, and one that is.
+/// What is no advance of the tail.
 #[tactic(auto, using(crate::proofs::RefusedCases::refused_advances))]
 pub fn advances()
     // The second look left out a seat, or freed no page and one could be freed.
     ensures seat_left_out { (mark at : ℕ) (holder : Option ℕ) → HasAdvancedTo two_seats first_pass one_seen mark at holder → ⊥ }
     ensures page_kept { (mark at : ℕ) (holder : Option ℕ) → HasAdvancedTo two_seats first_pass none_freed mark at holder → ⊥ }
     ensures told_as_it_looks { HasTried first_pass told_of_3 → ⊥ }
-    ensures frees_one { HasFreedTo two_seats [] both_seen 0 1 }
-    ensures frees_none { HasFreedTo two_seats [] none_freed 0 0 → ⊥ }
-    ensures frees_after_one_seat { HasFreedTo two_seats [] one_seen 0 1 → ⊥ }
-    ensures frees_after_one_look { HasFreedTo two_seats [] seen_once 0 1 → ⊥ }
-    // A page was freed on which a listener stands that the second look met.
-    ensures frees_before_all { HasFreedTo two_seats [] one_met 0 1 → ⊥ }
-    ensures joiner { HasGivenUp two_seats one_joins 0 2 }
-    ensures another_joiner { HasGivenUp two_seats one_joins 0 1 → ⊥ }
-    // The look has found no session that joins at the seat to which it has come.
-    ensures joins_not { HasGivenUp two_seats one_seen 0 2 → ⊥ }
-    // All seats were looked at, and a third one is named.
-    ensures no_joiner { HasGivenUp two_seats none_freed 0 3 → ⊥ }
-    ensures freed { IsFreed two_seats [] both_seen one_page }
-    // The page after it is shown as the one before it.
-    ensures freed_from_the_end { IsFreed two_seats [] both_seen (record one_page { from = 1 }) → ⊥ }
-    // A session joined, and a page was freed.
-    ensures freed_beside_a_joiner { IsFreed two_seats [] both_seen (record one_page { joiner = Some 3 }) → ⊥ }
-    ensures mark_moved { HasTriedTail first_pass.known with_mark.known → ⊥ }
 {}
 
 /// What is no beginning of a look for wakes.

@@ -38,21 +38,7 @@ impl Floor {
         }
     }
 
-    // A look has found a position at a seat.
-    pub(crate) fn meet_at(&mut self, seat: u32, position: PosWord)
-        requires { seat < SECTIONS_MAX }
-        ensures met { (format : Format) (seen : List Tx) (met : List (ℕ × ℕ)) (least : ℕ)
-            → length (image format seen) < 2 ^ 32 → IsPositionIn format seen position
-            → IsFloorOf format seen met least self.old.mark self.old.at self.old.holder
-            → IsFloorOf format seen (met ++ met_at seat position) (least_after position least)
-            self.new.mark self.new.at self.new.holder }
-    {
-        if let PosWord::At { mark, pos } = position {
-            self.meet(SessionNo::new(seat + 1), mark, pos);
-        }
-    }
-
-    // The second look has found a position at a seat: the place that is kept for it, the tail's where nobody listens there.
+    // A look has found a position at a seat: the place that is kept for it, the tail's where nobody listens there.
     pub(crate) fn keep_for(&mut self, seat: u32, position: PosWord, tail: Pos) -> u64
         requires { seat < SECTIONS_MAX }
         ensures met { (format : Format) (seen : List Tx) (met : List (ℕ × ℕ)) (least : ℕ)

@@ -3,7 +3,6 @@
 //! `WordHub` is the hub that the program runs on. Its calls are loops of the steps of `pgn_words`: a writer holds one word while it
 //! publishes, and readers, joiners and leavers wait for nobody. Each call says in terms of the journal alone what it does, as every
 //! hub's does: `publish` appends this transaction, `scan` delivers what is due, a full queue is answered only where no page is left.
-//! `advance_tail` frees pages between transactions, without waiting for a session that joins.
 //!
 //! Places count cells of four bytes from the first of page 0 on, a page has 2,048 of them, and the limit and the oldest kept page are
 //! numbers of pages. Seats count from 0, and their sessions from 1. In `async.c` a commit is `PreCommit_Notify`, which writes by
@@ -28,4 +27,3 @@ mod wakes;
 mod writing;
 
 pub use hub::WordHub;
-pub use looks::Freed;

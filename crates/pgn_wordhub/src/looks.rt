@@ -1,4 +1,4 @@
-ghost use Rattle.std.specs.Prelude.{◌≡◌, ◌≢◌, ◌+◌, ◌^◌, ◌<◌, ◌≤◌, max, true, length, slice_get, Some, IfOk, IfErr};
+ghost use Rattle.std.specs.Prelude.{◌≡◌, ◌≢◌, ◌^◌, ◌<◌, ◌≤◌, max, true, length, slice_get, Some, IfSome};
 ghost use Rattle.pgn_lanes.specs.Least.{least_with};
 ghost use Rattle.pgn_journal.specs.Journal.{next_xid};
 ghost use Rattle.pgn_journal.specs.Packing.{page_of, image};
@@ -10,7 +10,7 @@ ghost use Rattle.pgn_words.specs.declared.pos_word.PosWord.TheVariants as words;
 ghost use Rattle.pgn_words.specs.declared.view.Look.TheVariants as looks;
 ghost use Rattle.pgn_wordhub.specs.Passes.{hub_shape};
 ghost use Rattle.pgn_wordhub.specs.Looks.{HasSeenFirst, HasSeenSecond, HasSeenSome};
-ghost use Rattle.pgn_wordhub.specs.Advancing.{advanced_view, HasAdvancedTo, HasTried, HasFreedTo, HasGivenUp};
+ghost use Rattle.pgn_wordhub.specs.Advancing.{advanced_view, HasAdvancedTo, HasTried};
 
 use crate::WordHub;
 use crate::floor::Floor;
@@ -23,15 +23,6 @@ use std::thread;
 
 /// A place for the announced tail, and one for each seat.
 const PLACES: usize = SECTIONS_MAX as usize + 1;
-
-/// What `advance_tail` did: the numbers of the oldest kept page, as it was found and after it, and a session that joined, for which it
-/// gave up. Where it gave up, both pages are the same.
-#[derive(Clone, Copy)]
-pub struct Freed {
-    pub from: u64,
-    pub to: u64,
-    pub joiner: Option<SessionNo>,
-}
 
 /// How far the queue goes, as a pass has found it under the lock: the number that no transaction has yet, the head, and the oldest kept
 /// page.
@@ -63,7 +54,7 @@ impl WordHub {
         };
         for seat in 0..self.seats() {
             let position = self.queue.first_look(pass, seat);
-            floor.meet_at(seat, position);
+            floor.keep_for(seat, position, head);
         }
         floor
     }
@@ -139,13 +130,8 @@ impl WordHub {
         WordHub::first_needed(&places[..self.dbs.len() + 1], tail)
     }
 
-    // The second look, which gives up at a session that joins and names it: the first place that is needed.
-    fn try_second(
-        &self,
-        pass: &mut WordPass,
-        floor: &mut Floor,
-        tail: Pos,
-    ) -> Result<Pos, SessionNo>
+    // The second look, which gives up at a session that joins: the first place that is needed.
+    fn try_second(&self, pass: &mut WordPass, floor: &mut Floor, tail: Pos) -> Option<Pos>
         requires own { IsPassOf self.now.queue pass.old }
         requires phase { may_look (view_of pass.old).phase ≡ true }
         requires decided { AreDecided (view_of pass.old).verdicts }
@@ -156,26 +142,21 @@ impl WordHub {
             < 2 ^ 32 }
         requires listens { (known_of pass.old).mark ≡ listens_at (view_of pass.old).post }
         ensures own { IsPassOf self.now.queue pass.new }
-        ensures seen { IfOk result (λ _. HasSeenSecond (view_of pass.old) (view_of pass.new)
-            (length (hub_shape self.now).seats) floor.new.mark floor.new.at floor.new.holder) }
         ensures some_seen { HasSeenSome (view_of pass.old) (view_of pass.new) }
-        ensures target { IfOk result (λ target. target ≡ (view_of pass.new).eye.target) }
-        ensures joins { IfErr result (λ _. (view_of pass.new).eye.joins
-            ≡ Some (view_of pass.new).eye.looked) }
-        ensures there { IfErr result (λ joiner. joiner ≡ (view_of pass.new).eye.looked + 1) }
-        ensures left { IfErr result (λ _. (view_of pass.new).eye.looked
-            < length (hub_shape self.now).seats) }
+        ensures all { IfSome result (λ _. (view_of pass.new).eye.looked
+            ≡ length (hub_shape self.now).seats) }
+        ensures target { IfSome result (λ target. target ≡ (view_of pass.new).eye.target) }
     {
         let mut places = [0; PLACES];
         places[0] = tail.get();
         for seat in 0..self.seats() {
             let position = self.queue.second_look(pass, seat);
             if position == PosWord::Joining {
-                return Err(SessionNo::new(seat + 1));
+                return None;
             }
             places[seat as usize + 1] = floor.keep_for(seat, position, tail);
         }
-        Ok(WordHub::first_needed(&places[..self.dbs.len() + 1], tail))
+        Some(WordHub::first_needed(&places[..self.dbs.len() + 1], tail))
     }
 
     // The least of the places, of which the first is the tail's.
@@ -238,8 +219,8 @@ impl WordHub {
         (floor, stop)
     }
 
-    // Advances the tail, but for where a session joins: the oldest kept page, or that session.
-    pub(crate) fn try_advance(&self, pass: &mut WordPass, extent: &Extent) -> Result<u64, SessionNo>
+    // Advances the tail, but for where a session joins.
+    pub(crate) fn try_advance(&self, pass: &mut WordPass, extent: &Extent)
         requires own { IsPassOf self.now.queue pass.old }
         requires phase { may_look (view_of pass.old).phase ≡ true }
         requires decided { AreDecided (view_of pass.old).verdicts }
@@ -251,14 +232,11 @@ impl WordHub {
         requires stop { extent.now.stop ≡ (view_of pass.old).stop }
         ensures own { IsPassOf self.now.queue pass.new }
         ensures tried { HasTried (view_of pass.old) (view_of pass.new) }
-        ensures stop { IfOk result (λ to. HasFreedTo (hub_shape self.now) (known_of pass.old).named
-            (view_of pass.new) extent.now.stop to) }
-        ensures gave_up { IfErr result (λ joiner. HasGivenUp (hub_shape self.now) (view_of pass.new)
-            extent.now.stop joiner) }
     {
         let mut floor = self.look_first(pass, extent.number, extent.head);
         let tail = self.announce(pass, &floor);
-        let target = self.try_second(pass, &mut floor, tail)?;
-        Ok(self.free(pass, target, extent.stop))
+        if let Some(target) = self.try_second(pass, &mut floor, tail) {
+            self.free(pass, target, extent.stop);
+        }
     }
 }

@@ -12,14 +12,14 @@ ghost use Rattle.pgn_words.specs.Positions.{listens_at};
 ghost use Rattle.pgn_words.specs.Views.{may_look, AreDecided};
 ghost use Rattle.pgn_words.specs.Told.{MayEnd, head_known, stop_known, freed};
 ghost use Rattle.pgn_words.specs.declared.view.Phase.TheVariants as phases;
-ghost use Rattle.pgn_wordhub.specs.Passes.{hub_shape, IsHubPass};
-ghost use Rattle.pgn_wordhub.specs.Advancing.{advanced_view, HasTried, HasTriedTail, IsFreed};
+ghost use Rattle.pgn_wordhub.specs.Passes.{hub_shape};
+ghost use Rattle.pgn_wordhub.specs.Advancing.{advanced_view, HasTried};
 ghost use Rattle.pgn_wordhub.specs.Placing.{begun_view, IsPlacing};
 ghost use Rattle.pgn_wordhub.specs.Finishing.{own_tx, finished_view, HasCommitted, HasEnded};
 
 use crate::WordHub;
 use crate::floor::Floor;
-use crate::looks::{Extent, Freed};
+use crate::looks::Extent;
 use crate::placing::{OwnTx, Placing};
 use crate::wakes::Ending;
 use pgn_base::{CLEANUP_DELAY_PAGES, Full, Note, Usage, Xid};
@@ -82,7 +82,7 @@ impl WordHub {
                 head: placing.at,
                 stop: placing.stop,
             };
-            let _freed = self.try_advance(pass, &extent);
+            self.try_advance(pass, &extent);
         }
     }
 
@@ -232,56 +232,5 @@ impl WordHub {
             floor_mark: floor.mark,
             holder: floor.holder,
         }
-    }
-
-    // Advances the tail once under the lock, but for where a session joins.
-    fn try_tail(&self, pass: &mut WordPass) -> Freed
-        requires own { IsPassOf self.now.queue pass.old }
-        requires phase { (view_of pass.old).phase ≡ phases.Held }
-        requires decided { AreDecided (view_of pass.old).verdicts }
-        requires listens { (known_of pass.old).mark ≡ listens_at (view_of pass.old).post }
-        ensures own { IsPassOf self.now.queue pass.new }
-        ensures tried { HasTried (stop_known result.from (head_known (view_of pass.old)))
-            (view_of pass.new) }
-        ensures freed { IsFreed (hub_shape self.now) (known_of pass.old).named (view_of pass.new)
-            result }
-    {
-        let head = self.queue.load_head(pass);
-        let from = self.queue.load_stop(pass);
-        let next = self.queue.load_fin(pass);
-        let extent = Extent {
-            number: next,
-            head,
-            stop: from,
-        };
-        match self.try_advance(pass, &extent) {
-            Ok(to) => Freed {
-                from,
-                to,
-                joiner: None,
-            },
-            Err(joiner) => Freed {
-                from,
-                to: from,
-                joiner: Some(joiner),
-            },
-        }
-    }
-
-    /// Advances the tail once, without waiting for a session that joins.
-    ///
-    /// It waits for the lock. Where each seat was looked at twice, the oldest kept page is then that of the first place which a session
-    /// still needs, and never less than it was; at a session that joins the call gives up, and all pages stay. It takes no memory.
-    pub fn advance_tail<R: Wait>(&self, rt: &R, pass: &mut WordPass) -> Freed
-        requires own { IsHubPass self.now pass.old }
-        ensures own { IsHubPass self.now pass.new }
-        ensures tried { HasTriedTail (known_of pass.old) (known_of pass.new) }
-        ensures freed { IsFreed (hub_shape self.now) (known_of pass.old).named (view_of pass.new)
-            result }
-    {
-        self.lock(rt, pass);
-        let freed = self.try_tail(pass);
-        self.queue.drop_lock(pass);
-        freed
     }
 }

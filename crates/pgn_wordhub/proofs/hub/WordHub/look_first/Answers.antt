@@ -31,6 +31,6 @@ loop-seat-preserved c =
     let looked = c.first_look-position.ensures.looked in (
       c.first_look-position.ensures.own,
       first_keeps v w x c.loop-seat.seat c.first_look-position.result c.loop-seat.invariant.1 looked.view,
-      first_goes_on v w x c.loop-seat.seat c.loop-seat.floor.mark c.loop-seat.floor.at c.meet_at.new.self.mark c.meet_at.new.self.at c.loop-seat.floor.holder c.meet_at.new.self.holder c.first_look-position.result
-          c.requires.listens (omega (arith, long, low)) c.loop-seat.invariant.2 looked c.meet_at.ensures.met,
+      first_goes_on v w x c.loop-seat.seat c.loop-seat.floor.mark c.loop-seat.floor.at c.keep_for.new.self.mark c.keep_for.new.self.at c.loop-seat.floor.holder c.keep_for.new.self.holder c.first_look-position.result
+          c.requires.listens (omega (arith, long, low)) c.loop-seat.invariant.2 looked c.keep_for.ensures.met,
     )
