@@ -18,12 +18,4 @@ pub trait PassView {
     /// A listener has read everything below its mark.
     fn mark(&self) -> Option<Xid>
         ensures { result ≡ (known self.now).mark };
-
-    /// Every transaction below this number is finished, and its wakes have been set.
-    fn told(&self) -> Xid
-        ensures { result ≡ (known self.now).told };
-
-    /// How many notifications the pass may still send.
-    fn notes_left(&self) -> u32
-        ensures { result ≡ (known self.now).notes_left };
 }

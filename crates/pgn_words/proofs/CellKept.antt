@@ -1,10 +1,9 @@
 -- The steps on cells and the store of the head keep the rule.
-use Rattle.std.proofs.Common.{◌≡◌, ◌≢◌, ℕ, ◌+◌, ◌*◌, ◌%◌, ◌^◌, ◌<◌, ◌≤◌, true, List, [], ◌∷◌, ◌++◌, length, get_or, set, Option, Some, All, sym, refl, ap, ◌∙◌, subst, arith, append_assoc, mod-lt, length-set}
+use Rattle.std.proofs.Common.{◌≡◌, ◌≢◌, ℕ, ◌+◌, ◌*◌, ◌%◌, ◌^◌, ◌<◌, ◌≤◌, true, List, [], ◌∷◌, ◌++◌, length, set, Option, Some, All, sym, refl, ap, ◌∙◌, subst, arith, append_assoc, mod-lt, length-set}
 use Rattle.std.proofs.lemmas.List.{append-nil, length-append}
 use mathlib.Core.Option.{some, none}
 use lib.ListN.{get_elem?}
 use Rattle.atomic_table.specs.Table.{Me, Allows, step}
-use Rattle.atomic_table.proofs.Lists.{set_again}
 use Rattle.pgn_journal.specs.declared.tx.Tx.{Tx}
 use Rattle.pgn_journal.specs.Begins.{Begins}
 use Rattle.pgn_journal.specs.Journal.{next_xid}
@@ -16,23 +15,22 @@ use Rattle.pgn_journal.proofs.DraftLaws.{drafts_are_written}
 use Rattle.std.proofs.lemmas.List.Elements.{All-push}
 use Rattle.pgn_layout.specs.Batches.{padded_to}
 use Rattle.pgn_words.specs.declared.view.View.{View}
-use Rattle.pgn_words.specs.declared.view.Pen.{Pen}
 use Rattle.pgn_words.specs.declared.view.Phase.{Phase}
-use Rattle.pgn_words.specs.declared.view.Phase.TheVariants.{Free, Held, Headed, Ready, Open, Finished, Signalling}
+use Rattle.pgn_words.specs.declared.view.Phase.TheVariants.{Open}
 use Rattle.pgn_words.specs.Words.{Content, row, room_of, cells_at}
-use Rattle.pgn_words.specs.Views.{holds_lock, knows_stop, knows_cells, stored_by, is_walking}
+use Rattle.pgn_words.specs.Views.{holds_lock, knows_stop, stored_by, is_walking}
 use Rattle.pgn_words.specs.Positions.{is_placed}
 use Rattle.pgn_words.specs.declared.view.Stage.TheVariants.{Shown}
 use Rattle.pgn_words.specs.ListenRule.{LooksBy, Spared, Walking, Bounds}
 use Rattle.pgn_words.specs.Rule.{World, KnowsStop, HoldsIn, Holds, IsWriting, Law, Lawful, Keeps, KnowsAll}
-use Rattle.pgn_words.specs.Told.{TellsCellStore, TellsCell, TellsHeadStore, MayShow, cell_stored, head_stored}
+use Rattle.pgn_words.specs.Told.{TellsCellStore, TellsHeadStore, MayShow, cell_stored, head_stored}
 use Rattle.pgn_words.proofs.EachLaws.{each_turn, each_keep}
 use Rattle.pgn_words.proofs.Frames.{seats_keep, locking_keep, history_keep, numbers_keep, budget_keep, statuses_keep}
 use Rattle.pgn_words.proofs.MoreFrames.{posts_keep, looks_keep, wakes_keep, interests_keep, flags_keep, named_keep, taken_keep, someone_keep}
 use Rattle.pgn_words.proofs.LockKept.{held_setup, alone, others_hold, has_left}
 use Rattle.pgn_words.proofs.ImageLaws.{shown_bound, shown_low, written_part}
 use Rattle.pgn_words.proofs.HeadKept.{phase_holds}
-use Rattle.pgn_words.proofs.RowLaws.{set_cell, get_cell}
+use Rattle.pgn_words.proofs.RowLaws.{set_cell}
 use Rattle.pgn_words.proofs.RingLaws.{keeps_below, keeps_more, keeps_padded, length-padded, small_set}
 use Rattle.pgn_words.proofs.Meets.{allowed}
 
@@ -137,64 +135,6 @@ store_cell_allowed z slots id word at x me there opened next page stays low =
       law = stores z c g views id me.0 at x h here opened next page stays low;
       told = record { slots = refl; view = refl };
     })
-
--- the holder that knows the cells
-knows : (p : Phase) (z : Shape) (stop : ℕ) (past shown seen : List Tx) (cells : List ℕ) (session db : ℕ) (pen : Pen) → knows_cells p ≡ true
-    → HoldsIn p z.format (λ log. Keeps (room_of z) (page_start stop) log cells) past shown seen session db pen → Keeps (room_of z) (page_start stop) (image z.format shown) cells
-    → Keeps (room_of z) (page_start stop) (pen.cells ++ pen.batch) cells
-knows Free z stop past shown seen cells session db pen e h kept = absurd (cc)
-knows Held z stop past shown seen cells session db pen e h kept = absurd (cc)
-knows Headed z stop past shown seen cells session db pen e h kept = absurd (cc)
-knows Ready z stop past shown seen cells session db pen e h kept =
-    let stored : pen.cells ++ pen.batch ≡ image z.format shown = ap (λ b. pen.cells ++ b) h.batch_is ∙ append-nil pen.cells ∙ h.cells_are ∙ ap (image z.format) (sym h.idle.shown_is) in
-    subst (λ (log : List (Option ℕ)). Keeps (room_of z) (page_start stop) log cells) (sym stored) kept
-knows Open z stop past shown seen cells session db pen e h kept = h.kept
-knows Finished z stop past shown seen cells session db pen e h kept = absurd (cc)
-knows Signalling z stop past shown seen cells session db pen e h kept = absurd (cc)
-
-stop_too : (p : Phase) → knows_cells p ≡ true → knows_stop p ≡ true
-stop_too Free e = absurd (cc)
-stop_too Held e = absurd (cc)
-stop_too Headed e = absurd (cc)
-stop_too Ready e = refl
-stop_too Open e = refl
-stop_too Finished e = absurd (cc)
-stop_too Signalling e = absurd (cc)
-
-lock_too : (p : Phase) → knows_cells p ≡ true → holds_lock p ≡ true
-lock_too Free e = absurd (cc)
-lock_too Held e = refl
-lock_too Headed e = refl
-lock_too Ready e = refl
-lock_too Open e = refl
-lock_too Finished e = refl
-lock_too Signalling e = refl
-
--- who knows the cells may load one
-pub load_cell_allowed : (z : Shape) (slots id word at : ℕ) (me : Me ℕ View) → word ≡ cells_at z + at % room_of z → knows_cells me.0.phase ≡ true
-    → Allows (Lawful z) slots id me word (λ n. n) (TellsCell (step slots word 0 0 none) me)
-load_cell_allowed z slots id word at me there cells =
-    allowed z slots id word me (λ n. n) (TellsCell (step slots word 0 0 none) me) (λ shape c g views h here.
-    let found : get_or (row c) word 0 ≡ get_or c.cells (at % room_of z) 0 = ap (λ n. get_or (row c) n 0) there ∙ get_cell z c (at % room_of z) h.laid in
-    let setup : me.0.setup ≡ z = held_setup z c g views id me.0 h here (lock_too me.0.phase cells) in
-    let stop : me.0.stop ≡ c.stop = h.holding.stops id me.0 here (stop_too me.0.phase cells) in
-    let kept = knows me.0.phase z c.stop g.past g.shown me.0.known.seen c.cells me.0.known.session me.0.known.db me.0.pen cells (h.holding.holds id me.0 here) h.stored.kept in record {
-      w = me.0;
-      content = c;
-      world = g;
-      moves = set_get (row c) word;
-      law = subst (λ (us : List View). Law z c g us) (sym (set_again views id me.0 here)) h;
-      told = record {
-        slots = refl;
-        view = refl;
-        low = let was = h.stored.small (at % room_of z) in omega (arith, found, was);
-        value = λ place x word_is from that.
-            ap (λ n. get_or (row c) n 0) (word_is ∙ ap (λ (y : Shape). cells_at y + place % room_of y) setup) ∙ get_cell z c (place % room_of z) h.laid ∙ kept place x (omega (arith, from, stop)) that;
-      };
-    })
-  where
-    set_get : (l : List ℕ) (i : ℕ) → set l i (get_or l i 0) ≡ l
-    set_get l i = Rattle.std.proofs.lemmas.List.set-get_or l i 0
 
 shows : (z : Shape) (c : Content) (g : World) (views : List View) (id : ℕ) (v : View) (to : ℕ) → IsShape z → Law z c g views → get_elem? views id ≡ some v → v.phase ≡ Open → (may : MayShow v to)
     → Law z (record c { head = to }) (record g { shown = g.past ++ draft v.known.session v.known.db v.pen.notes may.queued may.fate ∷ [] }) (set views id (head_stored to v))

@@ -1,5 +1,5 @@
 -- What each step needs beyond its phase, what the pass is after it, and what it tells.
-use Rattle.std.specs.Prelude.{◌≡◌, ◌≢◌, ℕ, ◌+◌, ◌-◌, ◌%◌, ◌^◌, ◌<◌, ◌≤◌, List, [], ◌∷◌, ◌++◌, length, replicate, slice_get, Some, All, None, true, unwrap_or, drop, cond, max}
+use Rattle.std.specs.Prelude.{◌≡◌, ◌≢◌, ℕ, ◌+◌, ◌-◌, ◌^◌, ◌<◌, ◌≤◌, List, [], ◌∷◌, ◌++◌, length, replicate, Some, All, None, true, unwrap_or, drop, cond, max}
 use Rattle.atomic_table.specs.Table.{Step, Me}
 use Rattle.pgn_base.specs.declared.note.Note.{Note}
 use Rattle.pgn_journal.specs.declared.tx.Tx.{Tx}
@@ -18,7 +18,7 @@ use Rattle.pgn_words.specs.declared.view.View.{View}
 use Rattle.pgn_words.specs.declared.view.Phase.TheVariants.{Free, Held, Headed, Ready, Open, Finished, Signalling}
 use Rattle.pgn_words.specs.declared.view.Verdict.TheVariants.{Unseen}
 use Rattle.pgn_words.specs.declared.view.Look.TheVariants.{Idle, Second}
-use Rattle.pgn_words.specs.Words.{seats_of, room_of, cells_at, statuses_at}
+use Rattle.pgn_words.specs.Words.{seats_of, statuses_at}
 use Rattle.pgn_words.specs.Views.{stored_by, opened_view, holds_lock, no_seat, no_setup}
 
 -- A seat at the table of words: what the rule sees of it, and the slots that it holds, of which there are none.
@@ -124,13 +124,6 @@ cell_stored value v = record v { pen = record v.pen { batch = v.pen.batch ++ Som
 pub record TellsCellStore (s : Step ℕ) (v : Mine) (n : ℕ) (w : Mine) : Type 0 where
   pub slots : w.1 ≡ v.1
   pub view : w.0 ≡ cell_stored s.first v.0
-
--- a cell is that which was stored
-pub record TellsCell (s : Step ℕ) (v : Mine) (n : ℕ) (w : Mine) : Type 0 where
-  pub slots : w.1 ≡ v.1
-  pub view : w.0 ≡ v.0
-  pub low : n < 2 ^ 32
-  pub value : (at x : ℕ) → s.word ≡ cells_at v.0.setup + at % room_of v.0.setup → page_start v.0.stop ≤ at → slice_get (stored_by v.0) at ≡ Some (Some x) → n ≡ x
 
 -- so many notifications of a transaction are written, so far with this fate: not all of them, where a filler stands after them
 abbrev pub IsWrittenOf : Fate → ℕ → ℕ → Type 0

@@ -54,16 +54,6 @@ knows_stop Open = true
 knows_stop Finished = true
 knows_stop Signalling = true
 
--- the pass knows the cells up to the head and those that it stored past it
-abbrev pub knows_cells : Phase → Bool
-knows_cells Free = false
-knows_cells Held = false
-knows_cells Headed = false
-knows_cells Ready = true
-knows_cells Open = true
-knows_cells Finished = false
-knows_cells Signalling = false
-
 -- the pass may advance the tail: it knows the head and the oldest kept page, and has not set a status that is still to be finished
 abbrev pub may_look : Phase → Bool
 may_look Free = false

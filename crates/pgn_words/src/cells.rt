@@ -1,13 +1,13 @@
-ghost use Rattle.std.specs.Prelude.{◌≡◌, ℕ, ◌+◌, ◌^◌, ◌<◌, ◌≤◌, true, length, slice_get, Some};
+ghost use Rattle.std.specs.Prelude.{◌≡◌, ℕ, ◌+◌, ◌^◌, ◌<◌, ◌≤◌, length};
 ghost use Rattle.pgn_journal.specs.Packing.{page_of, page_start, image};
 ghost use Rattle.pgn_words.specs.Words.{cell_word, IsCellWord};
 ghost use Rattle.pgn_words.specs.Passes.{IsPassOf, view_of, known_of, shape_of};
-ghost use Rattle.pgn_words.specs.Views.{knows_cells, stored_by};
+ghost use Rattle.pgn_words.specs.Views.{stored_by};
 ghost use Rattle.pgn_words.specs.Told.{head_known, stop_known, cell_stored, head_stored, MayShow};
 ghost use Rattle.pgn_words.specs.declared.view.Phase.TheVariants as phases;
 
 use crate::pass::{WordPass, WordQueue};
-use crate::plays::{LoadCell, LoadHead, LoadStop, StoreCell, StoreHead};
+use crate::plays::{LoadHead, LoadStop, StoreCell, StoreHead};
 use crate::words::{HEAD, STOP};
 use pgn_layout::Pos;
 
@@ -81,21 +81,6 @@ impl WordQueue {
         self.table
             .shared
             .store::<StoreCell>(&mut pass.seat, word, u64::from(value));
-    }
-
-    /// A cell that the holder has stored, or that the head showed when the holder loaded it.
-    ///
-    /// - *phase*: a holder asks once it has loaded the oldest kept page, and before it sets its transaction's status.
-    pub fn load_cell(&self, pass: &mut WordPass, at: Pos) -> u32
-        requires own { IsPassOf self.now pass.old }
-        requires phase { knows_cells (view_of pass.old).phase ≡ true }
-        ensures own { IsPassOf self.now pass.new }
-        ensures view { view_of pass.new ≡ view_of pass.old }
-        ensures value { (x : ℕ) → page_start (view_of pass.old).stop ≤ at
-            → slice_get (stored_by (view_of pass.old)) at ≡ Some (Some x) → result ≡ x }
-    {
-        let word = self.word_of_cell(at);
-        self.table.shared.load::<LoadCell>(&mut pass.seat, word) as u32
     }
 
     /// Moves the head up to a place, so that all cells before it are seen.

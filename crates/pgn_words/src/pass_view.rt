@@ -22,14 +22,6 @@ impl PassView for WordPass {
     fn mark(&self) -> Option<Xid> {
         self.mark
     }
-
-    fn told(&self) -> Xid {
-        self.told
-    }
-
-    fn notes_left(&self) -> u32 {
-        self.notes_left
-    }
 }
 
 impl WordPass {

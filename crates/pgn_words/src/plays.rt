@@ -1,5 +1,5 @@
 //! What each step on the words tells.
-ghost use Rattle.pgn_words.specs.Told.{TellsLock, TellsDrop, TellsHead, TellsStop, TellsDraw, TellsCellStore, TellsCell, TellsHeadStore, TellsStatusSet, TellsFinStore, TellsFin, TellsStatus, after_making, made_by, noted, joined, spent_view};
+ghost use Rattle.pgn_words.specs.Told.{TellsLock, TellsDrop, TellsHead, TellsStop, TellsDraw, TellsCellStore, TellsHeadStore, TellsStatusSet, TellsFinStore, TellsFin, TellsStatus, after_making, made_by, noted, joined, spent_view};
 ghost use Rattle.pgn_words.specs.Listening.{TellsJoining, TellsBase, TellsRegistered, TellsBegun, TellsShown, TellsShownCell, TellsForwarded, TellsLeft};
 ghost use Rattle.pgn_words.specs.Looking.{TellsFirstLook, TellsTail, TellsTailStore, TellsSecondLook, TellsStopStore};
 ghost use Rattle.pgn_words.specs.Waking.{TellsTaken, TellsWakeLook, TellsWakeSet, TellsRaised, TellsLooked};
@@ -38,12 +38,6 @@ pub(crate) struct StoreCell;
 
 impl Play<u8, View> for StoreCell {
     ghost then = { TellsCellStore };
-}
-
-pub(crate) struct LoadCell;
-
-impl Play<u8, View> for LoadCell {
-    ghost then = { TellsCell };
 }
 
 pub(crate) struct StoreHead;
