@@ -212,6 +212,10 @@ Reads-refused most at a b inboxes callers h on = record {
   asked = firsts_now most h.frames inboxes callers h.asked on;
 }
 
+-- a count that did not rise
+pub unrisen : (before now : ℕ) → before ≤ now → (before < now → ⊥) → now ≡ before
+unrisen before now later none = elim (cases_lt before now) [ inl less ↦ absurd (none less) | inr same ↦ omega (arith, later, same) ]
+
 -- where no frame comes next, all was read
 pub Reads-end : (most at : ℕ) (a b c : Option (List ℕ)) (inboxes : List (Outlet (Option Ask))) (callers : List Caller) → Reads most at a b inboxes callers → OfKnown (NextFrame (length callers) at Over) b c
     → ReadsAll most a inboxes callers None

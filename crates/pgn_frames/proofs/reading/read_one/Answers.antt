@@ -1,4 +1,4 @@
-use Rattle.std.proofs.Common.{◌≡◌, ℕ, List, length, Result, Ok, rules, sym, ap, subst}
+use Rattle.std.proofs.Common.{◌≡◌, ℕ, List, length, Result, Ok, refl, rules, sym, ap, subst}
 use Rattle.pgn_queries.specs.Client.{OfKnown}
 use Rattle.pgn_frames.specs.declared.framing.Arrival.{Arrival}
 use Rattle.pgn_frames.specs.declared.framing.Arrival.TheVariants as arrival
@@ -7,6 +7,24 @@ use Rattle.pgn_frames.specs.Arrivals.{framing_of}
 use Rattle.pgn_frames.specs.Frames.{Comes, IsSeat, NextFrame, Over, Wrong}
 use Rattle.pgn_frames.proofs.ReadingLaws.{Reads-end, Reads-fault, Reads-more, Reads-some, Turns-none, frame_at}
 use Rattle.pgn_frames.proofs.reading.read_one.Goals as goal
+
+pub take_frame-requires-clause-on : goal.take_frame-requires-clause-on
+take_frame-requires-clause-on g c κs within = c.requires.on
+
+pub returns-in-Ok-clause-on : goal.returns-in-Ok-clause-on
+returns-in-Ok-clause-on g c = λ other. c.in-Ok.ensures.on
+
+pub returns-in-Err-take_frame-clause-on : goal.returns-in-Err-take_frame-clause-on
+returns-in-Err-take_frame-clause-on g c = λ other. absurd (other refl)
+
+pub returns-in-Ok-End-clause-on : goal.returns-in-Ok-End-clause-on
+returns-in-Ok-End-clause-on g c = λ other. c.requires.on
+
+pub returns-in-Ok-Fault-clause-on : goal.returns-in-Ok-Fault-clause-on
+returns-in-Ok-Fault-clause-on g c = λ other. c.requires.on
+
+pub returns-in-Err-clause-on : goal.returns-in-Err-clause-on
+returns-in-Err-clause-on g c = λ other. c.requires.on
 
 pub returns-in-Ok-clause-turned : goal.returns-in-Ok-clause-turned
 returns-in-Ok-clause-turned g c = λ most all h.
