@@ -73,6 +73,12 @@ RING_OUTPUT = b"journal 0\n" + b"".join(
     for at in range(16))
 
 
+def who_awaits_a_flag_is_woken_by_its_raise(program):
+    """Sessions on threads that await what another one raises come to their ends at once, and not after some thousand seconds: mostly one
+    sleeps on its bell before that."""
+    same(run(program, ["run", "--patience", "1000000000"], RING), (0, RING_OUTPUT, b""), "status, output, errors")
+
+
 def sessions_without_threads_take_turns(program):
     """Where no thread can be had, sessions that wait for each other all come to their ends: one after another they would wait in vain."""
     if run(sys.executable, ["-c", "import os; os.fork()"], preexec_fn=_without_threads)[0] == 0:
