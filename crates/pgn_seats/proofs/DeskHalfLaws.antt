@@ -5,7 +5,6 @@ use Rattle.std.proofs.lemmas.List.Elements.{All-append}
 use Rattle.pgn_hub.specs.declared.known.Known.{Known}
 use Rattle.pgn_hub.specs.Shape.{Shape}
 use Rattle.pgn_language.specs.Inputs.{AreNumbered}
-use Rattle.pgn_session.proofs.TogetherLaws.{all-back, all-front}
 use Rattle.pgn_outlet.specs.declared.came.Came.{Came}
 use Rattle.pgn_outlet.specs.declared.hand.Hand.{Hand}
 use Rattle.pgn_outlet.specs.declared.outlet.Outlet.{Outlet}
@@ -17,7 +16,7 @@ use Rattle.pgn_turns.specs.declared.saying.Saying.{Saying}
 use Rattle.pgn_seats.specs.declared.desk.Desk.{Desk}
 use Rattle.pgn_seats.specs.Serving.{HasServed, HasToldFirst}
 use Rattle.pgn_seats.specs.Desks.{HaveServed, MayBegin, MayServe, sections_of}
-use Rattle.pgn_seats.proofs.DeskRowLaws.{by-number, clients-both, clients-count, clients-numbered, row-behind, row-front}
+use Rattle.pgn_seats.proofs.DeskRowLaws.{all-first, all-rest, by-number, clients-both, clients-count, clients-numbered, row-behind, row-front}
 use Rattle.pgn_seats.proofs.DeskTurnLaws.{first-still, served-still}
 
 -- what two results that are made one come to, where both are Ok
@@ -50,7 +49,7 @@ module _ {P : Type 0} (is_own : P → Type 0) (shape : Shape) (known : P → Kno
   -- both halves may begin
   pub left-begins : (left right : List (Desk P)) (v : Hand Saying) → MayServe is_own shape known inboxes (left ++ right) v → MayServe is_own shape known inboxes left (lower (length left) v)
   left-begins left right v m = record {
-    begin = all-front (MayBegin is_own shape known inboxes) left right m.begin;
+    begin = all-first (MayBegin is_own shape known inboxes) left right m.begin;
     numbered = row-front v.first left right m.numbered;
     fits = omega arith;
     unused = m.unused;
@@ -61,7 +60,7 @@ module _ {P : Type 0} (is_own : P → Type 0) (shape : Shape) (known : P → Kno
   right-begins left right v m =
       let fits : length (left ++ right) ≤ v.count = m.fits in
       record {
-        begin = all-back (MayBegin is_own shape known inboxes) left right m.begin;
+        begin = all-rest (MayBegin is_own shape known inboxes) left right m.begin;
         numbered = row-behind v.first (v.first + length left) left right refl m.numbered;
         fits = omega (arith, fits, length-append left right);
         unused = refl;

@@ -15,6 +15,16 @@ pub both-hold : {X : Type 0} (A B D : X → Type 0) → ((x : X) → A x → B x
 both-hold A B D step [] a b = All-nil D
 both-hold A B D step (x ∷ xs) a b = All-cons D x xs (step x (All-head A x xs a) (All-head B x xs b)) (both-hold A B D step xs (All-tail A x xs a) (All-tail B x xs b))
 
+-- what holds of all holds of the first ones
+pub all-first : {X : Type 0} (P : X → Type 0) (xs ys : List X) → All P (xs ++ ys) → All P xs
+all-first P [] ys all = All-nil P
+all-first P (x ∷ xs) ys all = All-cons P x xs (All-head P x (xs ++ ys) all) (all-first P xs ys (All-tail P x (xs ++ ys) all))
+
+-- and of those behind them
+pub all-rest : {X : Type 0} (P : X → Type 0) (xs ys : List X) → All P (xs ++ ys) → All P ys
+all-rest P [] ys all = all
+all-rest P (x ∷ xs) ys all = all-rest P xs ys (All-tail P x (xs ++ ys) all)
+
 module _ {P : Type 0} where
   -- the numbers of two parts
   pub row-front : (n : ℕ) (xs ys : List (Desk P)) → AreNumbered n (sections_of (xs ++ ys)) → AreNumbered n (sections_of xs)

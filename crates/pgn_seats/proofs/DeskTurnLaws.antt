@@ -6,7 +6,6 @@ use Rattle.pgn_hub.specs.Passes as passes
 use Rattle.pgn_hub.specs.Shape.{Shape}
 use Rattle.pgn_session.specs.declared.doing.Doing.TheVariants.{Over}
 use Rattle.pgn_session.specs.Open.{IsSameClient}
-use Rattle.pgn_session.proofs.TogetherLaws.{all-back, all-front}
 use Rattle.pgn_outlet.specs.declared.came.Came.{Came}
 use Rattle.pgn_outlet.specs.declared.hand.Hand.{Hand}
 use Rattle.pgn_outlet.specs.declared.outlet.Outlet.{Outlet}
@@ -20,7 +19,7 @@ use Rattle.pgn_seats.specs.Serving.{HasPushedFor, HasServed, HasToldFirst, IsSea
 use Rattle.pgn_seats.specs.Desks.{AreSameClients, HaveServed, MayBegin, MayServe}
 use Rattle.pgn_seats.specs.Workers.{AreInARow, HasSeat, HaveGone, IsNoneOf, MayGo, StandsBy}
 use Rattle.pgn_seats.proofs.SeatLaws.{seated-over, served-told, serves-begins, serves-told}
-use Rattle.pgn_seats.proofs.DeskRowLaws.{both-hold, clients-all, clients-both, clients-count, clients-none, clients-numbered, clients-on, each-numbered, none-before, none-behind, row-behind, row-front}
+use Rattle.pgn_seats.proofs.DeskRowLaws.{all-first, all-rest, both-hold, clients-all, clients-both, clients-count, clients-none, clients-numbered, clients-on, each-numbered, none-before, none-behind, row-behind, row-front}
 
 -- an element that is there
 got-within : {X : Type 0} (xs : List X) (i : ℕ) (Q : X → Type 0) → IsSomeAnd (slice_get xs i) Q → i < length xs
@@ -139,9 +138,9 @@ module _ {P : Type 0} (is_own : P → Type 0) (shape : Shape) (known : P → Kno
   pub left-go : (left right : List (Desk P)) (a : Bool) (v : Hand Saying) → MayGo is_own shape known inboxes (left ++ right) a v → MayGo is_own shape known inboxes left a v
   left-go left right a v m = record {
     row = record { first = m.row.first; numbered = row-front m.row.first left right m.row.numbered };
-    seats = all-front (HasSeat shape) left right m.seats;
-    may = all-front (λ (d : Desk P). MayPush v d.session.section.no) left right m.may;
-    stand = all-front (StandsBy is_own shape known inboxes a v) left right m.stand;
+    seats = all-first (HasSeat shape) left right m.seats;
+    may = all-first (λ (d : Desk P). MayPush v d.session.section.no) left right m.may;
+    stand = all-first (StandsBy is_own shape known inboxes a v) left right m.stand;
   }
 
   -- the right half may take a round behind one of the left half
@@ -149,9 +148,9 @@ module _ {P : Type 0} (is_own : P → Type 0) (shape : Shape) (known : P → Kno
       → MayGo is_own shape known inboxes right b w
   right-go left left_new right a b v w m g = record {
     row = record { first = m.row.first + length left; numbered = row-behind m.row.first (m.row.first + length left) left right refl m.row.numbered };
-    seats = all-back (HasSeat shape) left right m.seats;
-    may = may-still right v w g.same (all-back (λ (d : Desk P). MayPush v d.session.section.no) left right m.may);
-    stand = stand-apart right left a b v w g.stays (numbers-behind left right m.row) g.others (all-back (StandsBy is_own shape known inboxes a v) left right m.stand);
+    seats = all-rest (HasSeat shape) left right m.seats;
+    may = may-still right v w g.same (all-rest (λ (d : Desk P). MayPush v d.session.section.no) left right m.may);
+    stand = stand-apart right left a b v w g.stays (numbers-behind left right m.row) g.others (all-rest (StandsBy is_own shape known inboxes a v) left right m.stand);
   }
 
   -- a round of the left half and one of the right are a round of both
@@ -162,7 +161,7 @@ module _ {P : Type 0} (is_own : P → Type 0) (shape : Shape) (known : P → Kno
     stand = All-append (StandsBy is_own shape known inboxes c u) left_new right_new (stand-apart left_new right b c w u g.stays (numbers-before left left_new right f.clients m.row) g.others f.stand) g.stand;
     stays = λ fine. f.stays (g.stays fine);
     same = g.same ∙ ap (λ (x : Hand Saying). let y : Hand Saying = record x { sent = u.sent } in y) f.same;
-    others = λ k none. g.others k (all-back (λ (d : Desk P). d.session.section.no ≢ k) left right none) ∙ f.others k (all-front (λ (d : Desk P). d.session.section.no ≢ k) left right none);
+    others = λ k none. g.others k (all-rest (λ (d : Desk P). d.session.section.no ≢ k) left right none) ∙ f.others k (all-first (λ (d : Desk P). d.session.section.no ≢ k) left right none);
   }
 
   -- round after round

@@ -83,3 +83,13 @@ all-done done (x ∷ left) all cut none = absurd (omega (arith, none))
 -- one more is done
 pub one-done : {X : Type 0} (done : List X) (x : X) (left more all : List X) → left ≡ x ∷ more → done ++ left ≡ all → (done ++ x ∷ []) ++ more ≡ all
 one-done done x left more all next cut = append_assoc done (x ∷ []) more ∙ ap (λ (xs : List _). done ++ xs) (sym next) ∙ cut
+
+-- what holds of all holds of the first ones
+pub all-first : {X : Type 0} (P : X → Type 0) (xs ys : List X) → All P (xs ++ ys) → All P xs
+all-first P [] ys all = All-nil P
+all-first P (x ∷ xs) ys all = All-cons P x xs (All-head P x (xs ++ ys) all) (all-first P xs ys (All-tail P x (xs ++ ys) all))
+
+-- and of those behind them
+pub all-rest : {X : Type 0} (P : X → Type 0) (xs ys : List X) → All P (xs ++ ys) → All P ys
+all-rest P [] ys all = all
+all-rest P (x ∷ xs) ys all = all-rest P xs ys (All-tail P x (xs ++ ys) all)

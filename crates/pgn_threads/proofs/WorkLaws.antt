@@ -7,11 +7,10 @@ use Rattle.pgn_hub.specs.declared.known.Known.{Known}
 use Rattle.pgn_hub.specs.Shape.{Shape}
 use Rattle.pgn_session.specs.declared.session.Session.{Session}
 use Rattle.pgn_session.specs.Runs.{Script, script_of, IsHeld, IsOver, IsReady, HasGivenUp, HasStopped}
-use Rattle.pgn_session.proofs.TogetherLaws.{all-front, all-back}
 use Rattle.pgn_threads.specs.Whole.{HaveRun}
 use Rattle.pgn_threads.specs.Work.{AreReadyHalves, HasTakenTurn, HaveEnded, HaveTakenTurns}
 use Rattle.pgn_workers.specs.declared.turn.Turn.{Turn}
-use Rattle.pgn_threads.proofs.ListLemmas.{same-count}
+use Rattle.pgn_threads.proofs.ListLemmas.{all-first, all-rest, same-count}
 
 -- one of a front, or of what follows it
 any-front : {X : Type 0} (Q : X → Type 0) (xs ys : List X) → Any Q xs → Any Q (xs ++ ys)
@@ -36,11 +35,11 @@ module _ {P : Type 0} (is_own : P → Type 0) (shape : Shape) (known : P → Kno
 
   -- the first ones of sessions that are ready are so
   pub front-ready : (xs ys : List (Session P)) → All (IsReady is_own shape known) (xs ++ ys) → All (IsReady is_own shape known) xs
-  front-ready xs ys ready = all-front (IsReady is_own shape known) xs ys ready
+  front-ready xs ys ready = all-first (IsReady is_own shape known) xs ys ready
 
   -- and those behind them
   pub behind-ready : (xs ys : List (Session P)) → All (IsReady is_own shape known) (xs ++ ys) → All (IsReady is_own shape known) ys
-  behind-ready xs ys ready = all-back (IsReady is_own shape known) xs ys ready
+  behind-ready xs ys ready = all-rest (IsReady is_own shape known) xs ys ready
 
   both-scripts : (left left_new right right_new : List (Session P)) → map script_of left_new ≡ map script_of left → map script_of right_new ≡ map script_of right → map script_of (left_new ++ right_new) ≡ map script_of (left ++ right)
   both-scripts left left_new right right_new l r =
