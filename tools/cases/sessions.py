@@ -3,6 +3,7 @@ refused. And how often the writer of a service is woken."""
 import ctypes
 import errno
 import os
+import re
 import resource
 import struct
 import subprocess
@@ -73,10 +74,19 @@ RING_OUTPUT = b"journal 0\n" + b"".join(
     for at in range(16))
 
 
-def who_awaits_a_flag_is_woken_by_its_raise(program):
-    """Sessions on threads that await what another one raises come to their ends at once, and not after some thousand seconds: mostly one
-    sleeps on its bell before that."""
-    same(run(program, ["run", "--patience", "1000000000"], RING), (0, RING_OUTPUT, b""), "status, output, errors")
+def a_listener_that_awaits_a_flag_is_woken_by_its_raise(program):
+    """Of two that notify behind the raise of a flag, the listener that awaited it is mostly the first: the other one has 20,000 lines before
+    that. Were the listener not rung, it would mostly be the last: it sleeps on its bell, for up to a second more."""
+    rounds, lines = range(10), b"BEGIN\nROLLBACK\n" * 10_000
+    listens = b"".join(b"\\await f%d\nNOTIFY d\n\\signal g%d\n" % (at, at) for at in rounds)
+    raises = b"".join(b"%s\\signal f%d\n%sNOTIFY d\n\\await g%d\n" % (lines, at, lines, at) for at in rounds)
+    given = b"\\session l 1\nLISTEN c\n%s\\session r 1\n%s" % (listens, raises)
+    status, output, errors = run(program, ["run", "--patience", "1000000000"], given)
+    senders = re.findall(rb"(?m)^xid \d+ session (\d) ", output)
+    same((status, errors, len(senders)), (0, b"", 20), "status, errors, how many transactions")
+    first = senders[::2].count(b"1")
+    if first < 5:
+        raise Wrong(f"the listener is the first to notify {first} times of 10")
 
 
 def sessions_without_threads_take_turns(program):
