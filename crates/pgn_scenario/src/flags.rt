@@ -50,14 +50,8 @@ impl Flags {
         ensures within { IfOk result (λ number. number < length self.new.names) }
         ensures after { OnOk result (self.new ≡ signalling self.old flag) }
     {
-        let Ok(copy) = flag.copy(alloc) else {
-            drop(flag);
-            return Err(AllocError);
-        };
-        let Ok((number, _)) = self.names.insert_full(flag) else {
-            drop(copy);
-            return Err(AllocError);
-        };
+        let copy = flag.copy(alloc)?;
+        let (number, _) = self.names.insert_full(flag)?;
         self.signalled.insert(copy)?;
         Ok(number)
     }
@@ -68,18 +62,10 @@ impl Flags {
         ensures within { IfOk result (λ number. number < length self.new.names) }
         ensures after { OnOk result (self.new ≡ awaiting self.old flag line) }
     {
-        let Ok(copy) = flag.copy(alloc) else {
-            drop(flag);
-            return Err(AllocError);
-        };
-        let Ok((number, _)) = self.names.insert_full(flag) else {
-            drop(copy);
-            return Err(AllocError);
-        };
+        let copy = flag.copy(alloc)?;
+        let (number, _) = self.names.insert_full(flag)?;
         if !self.awaited.contains_key(&copy) {
             self.awaited.insert(copy, line)?;
-        } else {
-            drop(copy);
         }
         Ok(number)
     }
