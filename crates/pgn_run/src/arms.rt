@@ -1,5 +1,4 @@
 ghost use Rattle.std.specs.Prelude.{◌≡◌, ℕ, true, [], cond, length, OnOk};
-ghost use Rattle.std.specs.Thread.{IsSend, IsSync};
 ghost use Rattle.pgn_outlet.specs.Passes.{IsPassOf, knows};
 ghost use Rattle.pgn_outlet.specs.Rule as rule;
 ghost use Rattle.pgn_text.specs.Rendering.{Puts};
@@ -86,8 +85,7 @@ pub(crate) fn run_arms<
     join_mut(
         room.rt,
         &mut || -> Told
-            requires { IsSync R.row × IsSync H.row × IsSend P.row × IsSend K.row
-                × MayServe (H.is_pass room.now.hub.now) (H.shape room.now.hub.now) P.known
+            requires { MayServe (H.is_pass room.now.hub.now) (H.shape room.now.hub.now) P.known
                 room.now.inboxes.now desks.now rule.sender }
             ensures { HasToldBy (H.is_pass room.entry.now.hub.now) (H.shape room.entry.now.hub.now)
                 P.known room.entry.now.inboxes.now desks.entry.now desks.exit.now K.held K.faults
@@ -236,8 +234,7 @@ fn serve_beside<
     let ((), served) = join_mut(
         hall.rt,
         &mut || -> ()
-            requires { IsSync R.row × IsSync H.row × IsSend K.row
-                × IsPassOf hall.now.outbox.now writing.now.takes
+            requires { IsPassOf hall.now.outbox.now writing.now.takes
                 × ((knows writing.now.takes).takes ≡ true) }
             ensures { IsPassOf hall.entry.now.outbox.now writing.exit.now.takes
                 × Wrote K.held K.faults (knows writing.entry.now.takes)
@@ -245,8 +242,7 @@ fn serve_beside<
                 sink.exit.now writing.exit.now.out }
         { write_where_met(hall, writing, sink) },
         &mut || -> (Result<(), AllocError>, bool)
-            requires { IsSync R.row × IsSync H.row × IsSend P.row
-                × IsPassOf hall.now.outbox.now tells.now.pass
+            requires { IsPassOf hall.now.outbox.now tells.now.pass
                 × MayServe (H.is_pass hall.now.hub.now) (H.shape hall.now.hub.now) P.known
                 hall.now.inboxes.now desks.now (knows tells.now.pass) }
             ensures { IsPassOf hall.entry.now.outbox.now tells.exit.now.pass
