@@ -36,11 +36,23 @@ pub(crate) fn close<P: PassView + Send + Drop, H: Hub<Pass = P> + Drop, R: Wait>
         desks,
         callers,
     } = seating;
-    let left = leave_all(rt, alloc, inboxes.as_slice(), desks, callers);
+    let mut passes = Vec::new(alloc);
+    let mut desks = desks.into_iter();
+    let mut callers = callers.into_iter();
+    let left = leave_each(
+        rt,
+        inboxes.as_slice(),
+        &mut desks,
+        &mut callers,
+        &mut passes,
+    );
+    drop(desks);
+    drop(callers);
     destroy_all(inboxes);
     match left {
-        Ok(passes) => gather_where_served(hub, passes, served),
+        Ok(()) => gather_where_served(hub, passes, served),
         Err(error) => {
+            drop(passes);
             drop(hub);
             Err(error)
         }
@@ -63,7 +75,8 @@ fn gather_where_served<P: PassView + Send + Drop, H: Hub<Pass = P> + Drop>(
 {
     match served {
         Ok(()) => {
-            gather_all(hub, passes);
+            are_within(&hub, passes.as_slice());
+            drop(hub.gather(passes));
             Ok(())
         }
         Err(error) => {
@@ -74,54 +87,14 @@ fn gather_where_served<P: PassView + Send + Drop, H: Hub<Pass = P> + Drop>(
     }
 }
 
-// Gathers the passes of a hub.
-fn gather_all<P: PassView + Send + Drop, H: Hub<Pass = P> + Drop>(hub: H, passes: Vec<P>)
-    requires own { All (H.is_pass hub) passes.items }
-    requires all { map (λ pass. (P.known pass).session) passes.items ≡ range_with_len 1
-        (length (H.shape hub).seats) }
-    ensures gathered { (count : _) × Gathered (map P.known passes.items) count }
-    ensures within { All (λ pass. IsWithin (P.known pass)) passes.items }
-{
-    are_within(&hub, passes.as_slice());
-    let roll = hub.gather(passes);
-    drop(roll);
-}
-
 // What holds of each pass of a hub between calls.
 fn are_within<P: PassView + Send + Drop, H: Hub<Pass = P>>(hub: &H, passes: &[P])
     requires { All (H.is_pass hub.now) passes.now }
     ensures { All (λ pass. IsWithin (P.known pass)) passes.now }
 {}
 
-// Closes each inbox, and keeps the passes of the desks' sessions.
-fn leave_all<P: PassView + Send + Drop, R: Wait>(
-    rt: &R,
-    alloc: Global,
-    inboxes: &[Inbox],
-    desks: Vec<Desk<P>>,
-    callers: Vec<Caller>,
-) -> Result<Vec<P>, AllocError>
-    requires close { MayCloseAll inboxes.now desks.items callers.items }
-    ensures took { HaveTakenFirst desks.items callers.items }
-    ensures passes { IfOk result (λ passes.
-        passes.items ≡ map (λ desk. desk.session.pass) desks.items) }
-{
-    let mut passes = Vec::new(alloc);
-    let mut desks = desks.into_iter();
-    let mut callers = callers.into_iter();
-    let left = leave_each(rt, inboxes, &mut desks, &mut callers, &mut passes);
-    drop(desks);
-    drop(callers);
-    match left {
-        Ok(()) => Ok(passes),
-        Err(error) => {
-            drop(passes);
-            Err(error)
-        }
-    }
-}
-
-// Closes each inbox with the next desk and the next caller, which are lent, so that nothing with parts is dropped on the way.
+// Closes each inbox with the next desk and the next caller, which are lent, so that nothing with parts is dropped on the way, and keeps the
+// passes of the desks' sessions.
 fn leave_each<P: PassView + Send + Drop, R: Wait>(
     rt: &R,
     inboxes: &[Inbox],

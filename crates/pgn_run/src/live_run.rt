@@ -146,28 +146,11 @@ fn counts<P: PassView + Send + Drop>(
 ) -> Result<Vec<usize>, AllocError>
     ensures { IfOk result (λ counts. counts.items ≡ counts_of sessions.now) }
 {
-    let mut counts = Vec::new(alloc);
-    match count_each(sessions, &mut counts) {
-        Ok(()) => Ok(counts),
-        Err(error) => {
-            drop(counts);
-            Err(error)
-        }
-    }
-}
-
-fn count_each<P: PassView + Send + Drop>(
-    sessions: &[Session<P>],
-    counts: &mut Vec<usize>,
-) -> Result<(), AllocError>
-    requires { counts.old.items ≡ [] }
-    ensures { OnOk result (counts.new.items ≡ counts_of sessions.now) }
-{
-    counts.reserve(sessions.len())?;
+    let mut counts = Vec::with_capacity(alloc, sessions.len())?;
     for session in sessions {
         counts.push(session.items.as_slice().len())?;
     }
-    Ok(())
+    Ok(counts)
 }
 
 // Writes what comes last of each session, behind the items that were told of it, the journal, and where each session ended.

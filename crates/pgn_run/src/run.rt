@@ -322,7 +322,7 @@ fn run<S: Source, K: Sink + Send, R: Threads + Wait + Clock + Sync>(
         source.new sink.old sink.new result }
 {
     match read_input(means.alloc, source, READ_LIMIT) {
-        Ok(input) => answer::<WordHub, K, R>(means, input, settings, shows, sink),
+        Ok(input) => answer::<K, R>(means, input, settings, shows, sink),
         Err(Unread::Failed) => Status::ReadFault,
         Err(Unread::Memory) => Status::NoMemory,
     }
@@ -363,11 +363,11 @@ fn drill<K: Sink + Send, R: Threads + Wait + Clock + Sync>(
         patience: PATIENCE_MAX,
         format: Format::One,
     };
-    answer::<WordHub, K, R>(means, input, settings, shows, sink)
+    answer::<K, R>(means, input, settings, shows, sink)
 }
 
-// Runs an input that was read, over a hub of this type, and lets the input go once it is a scenario.
-fn answer<H: Hub + Sync + Drop, K: Sink + Send, R: Threads + Wait + Clock + Sync>(
+// Runs an input that was read, over the word hub, and lets the input go once it is a scenario.
+fn answer<K: Sink + Send, R: Threads + Wait + Clock + Sync>(
     means: &Means<'_, R>,
     input: Vec<u8>,
     settings: RunSettings,
@@ -385,7 +385,7 @@ fn answer<H: Hub + Sync + Drop, K: Sink + Send, R: Threads + Wait + Clock + Sync
     let reading = read_scenario(means.alloc, means.hashes, input.as_slice());
     drop(input);
     match reading {
-        Ok(Ok(scenario)) => play::<H, K, R>(means, scenario, settings, shows, sink),
+        Ok(Ok(scenario)) => play::<WordHub, K, R>(means, scenario, settings, shows, sink),
         Ok(Err(fault)) => Status::BadScenario(fault),
         Err(AllocError) => Status::NoMemory,
     }

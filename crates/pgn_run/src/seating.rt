@@ -89,25 +89,23 @@ fn seating_for<P: PassView + Send + Drop>(
         desks: Vec::new(alloc),
         callers: Vec::new(alloc),
     };
-    match seat_all(alloc, hashes, seats, passes, &mut seating) {
+    let mut passes = passes.into_iter();
+    let seated = seat_each(alloc, hashes, seats, &mut passes, &mut seating);
+    drop(passes);
+    match seated {
         Ok(()) => Ok(seating),
         Err(error) => {
-            unseat(seating);
+            let Seating {
+                inboxes,
+                desks,
+                callers,
+            } = seating;
+            drop(desks);
+            drop(callers);
+            destroy_all(inboxes);
             Err(error)
         }
     }
-}
-
-// Ends what seats have.
-fn unseat<P: PassView + Send + Drop>(seating: Seating<P>) {
-    let Seating {
-        inboxes,
-        desks,
-        callers,
-    } = seating;
-    drop(desks);
-    drop(callers);
-    destroy_all(inboxes);
 }
 
 /// Drops what was not taken from inboxes, and gives the memory back.
@@ -118,30 +116,7 @@ pub(crate) fn destroy_all(mut inboxes: Vec<Inbox>) {
     inboxes.destroy_empty();
 }
 
-// Seats a session for each of the passes, in order.
-fn seat_all<P: PassView + Send + Drop>(
-    alloc: Global,
-    hashes: Seed,
-    seats: u32,
-    passes: Vec<P>,
-    seating: &mut Seating<P>,
-) -> Result<(), AllocError>
-    requires some { 1 ≤ seats }
-    requires few { seats ≤ SECTIONS_MAX }
-    requires opened { map P.known passes.items ≡ opened_passes 1 (service_shape seats).seats }
-    requires empty { (seating.old.inboxes.items ≡ []) × (seating.old.desks.items ≡ [])
-        × (seating.old.callers.items ≡ []) }
-    ensures { OnOk result
-        (AreSeated P.known seats passes.items seating.new.inboxes.items seating.new.desks.items
-        seating.new.callers.items) }
-{
-    let mut passes = passes.into_iter();
-    let seated = seat_each(alloc, hashes, seats, &mut passes, seating);
-    drop(passes);
-    seated
-}
-
-// Seats a session for each of the passes, which are lent, so that they are dropped where all is done.
+// Seats a session for each of the passes, in order; they are lent, so that they are dropped where all is done.
 fn seat_each<P: PassView + Send + Drop>(
     alloc: Global,
     hashes: Seed,
