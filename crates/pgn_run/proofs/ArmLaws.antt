@@ -132,6 +132,10 @@ signs_of-append seat (x ∷ xs) ys =
     let own : List (Option ℕ) = cond (x.seat == seat) (signs_in x.bytes) [] in
     ap (λ (rest : List (Option ℕ)). own ++ rest) (signs_of-append seat xs ys) ∙ sym (append_assoc own (signs_of seat xs) (signs_of seat ys))
 
+-- where no write had failed, what is put fails by its cause
+pub cause-from_Puts : {S : Type 0} {held : S → Option (List ℕ)} {faults : S → ℕ} {s₀ s₁ : S} {o₀ o₁ : Out} {text : List ℕ} → o₀.so_far ≡ Ok tt → Puts held faults s₀ o₀ s₁ o₁ text → HasCause (faults s₀) (faults s₁) o₁.so_far
+cause-from_Puts {faults = faults} {s₀ = s₀} fine puts = puts.cause (faults s₀) (subst (λ (x : Result Unit Failed). HasCause (faults s₀) (faults s₀) x) (sym fine) (record { later = omega arith; failed = tt; passed = refl }))
+
 module _ {S : Type 0} (held : S → Option (List ℕ)) (faults : S → ℕ) where
   -- where nothing came nothing was written
   pub wrote-none : (v : Hand Saying) (sink : S) (out : Out) → Wrote held faults v v sink out sink out
@@ -177,7 +181,7 @@ module _ {S : Type 0} (held : S → Option (List ℕ)) (faults : S → ℕ) wher
     over = over;
     refused = refused;
     writes = Writes-from_Puts none fine puts (Puts-none held faults s₃ o₃) sent;
-    cause = puts.cause (faults s₀) (subst (λ (x : Result Unit Failed). HasCause (faults s₀) (faults s₀) x) (sym fine) (record { later = omega arith; failed = tt; passed = refl }));
+    cause = cause-from_Puts fine puts;
   }
     where
       got : t₁.got ≡ f.more

@@ -1,6 +1,7 @@
 -- A hub that is opened for one client, and its session.
 use Rattle.std.proofs.Common.{◌≡◌, ℕ, List, [], ◌∷◌, length, map, get_or, All, sym, ap, ◌∙◌, subst, refl, arith}
 use Rattle.std.specs.List.{range_with_len}
+use Rattle.std.proofs.lemmas.List.{length-map}
 use Rattle.std.proofs.lemmas.List.Elements.{All-nil, All-cons, All-head}
 use Rattle.pgn_hub.specs.declared.setup.SeatSetup.{SeatSetup}
 use Rattle.pgn_hub.specs.Passes.{opened_pass, opened_passes}
@@ -23,6 +24,10 @@ pub opened-known : {P : Type 0} (known : P → Known) (passes : List P) (pass : 
 opened-known {P} known passes pass setup seats e f g one =
     let all : known pass ∷ [] ≡ opened_passes 1 wire_shape.seats = ap (λ (ps : List P). map known ps) (sym one) ∙ e ∙ ap (λ (s : List SeatSetup). opened_passes 1 s) (f ∙ g) in
     ap (λ (ks : List Known). get_or ks 0 (known pass)) all
+
+-- it is the only one
+pub only-one : {P : Type 0} (known : P → Known) (passes : List P) (setup : Shape) (seats : List SeatSetup) → map known passes ≡ opened_passes 1 setup.seats → setup.seats ≡ seats → seats ≡ wire_shape.seats → length passes ≡ 1
+only-one known passes setup seats e f g = sym (length-map passes known) ∙ ap (λ (ks : List Known). length ks) e ∙ ap (λ (s : List SeatSetup). length (opened_passes 1 s)) (f ∙ g)
 
 -- what holds of all holds of it
 pub only-has : {P : Type 0} (Q : P → Type 0) (passes : List P) (pass : P) → All Q passes → passes ≡ pass ∷ [] → Q pass

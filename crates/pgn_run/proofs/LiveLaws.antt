@@ -318,6 +318,10 @@ module _ {Q : Type 0} (scenario : Scenario) (shape : Shape) (pages patience : �
 pub whole-first : (sections : List Section) (logs : List Came) (P : List ℕ → Type 0) → ComesWhole sections logs P → ComesFirst sections logs P
 whole-first sections logs P came = record { cames = came.cames; first = λ n. record { more = []; split = sym (came.whole n) ∙ sym (append-nil (items_of n came.cames)) }; output = came.output }
 
+-- a count that does not fall here, nor behind, does not fall
+pub later-from : (before mid now : ℕ) → before ≤ mid → mid ≤ now → before ≤ now
+later-from before mid now first second = omega (arith, first, second)
+
 -- what rose behind rose from before
 pub rose-from : (before mid now : ℕ) → before ≤ mid → Rose mid now → Rose before now
 rose-from before mid now later (inl less) = inl (omega (arith, later, less))

@@ -21,6 +21,20 @@ use Rattle.pgn_run.specs.declared.print.Shows.TheVariants.{AtEnd, Live}
 use Rattle.pgn_run.specs.declared.print.Print.{Print}
 use Rattle.pgn_run.specs.declared.print.Print.TheVariants.{Text, Summary}
 
+-- want of memory is no good end, and no write fault
+pub memory-done : {A : Type 0} → NoMemory ≡ Done → A
+memory-done e = absurd (cc)
+
+pub memory-fault : {A : Type 0} → NoMemory ≡ WriteFault → A
+memory-fault e = absurd (cc)
+
+-- nor is a write fault a good end, or want of memory
+pub fault-done : {A : Type 0} → WriteFault ≡ Done → A
+fault-done e = absurd (cc)
+
+pub fault-memory : {A : Type 0} → WriteFault ≡ NoMemory → A
+fault-memory e = absurd (cc)
+
 -- what is written of a run shows nothing of what a bare one lacks
 printed-bare : (print : Print) (scenario : Scenario) (journal : List Tx) (traces : List Trace) → printed print scenario journal (map bare traces) ≡ printed print scenario journal traces
 printed-bare Text scenario journal traces = text-bare scenario journal traces

@@ -56,7 +56,9 @@ next-left known seats place pass rest (suc more) lt count e = (
 pub rest-left : {P : Type 0} (known : P → Known) (seats place : ℕ) (left : List P) (pass : P) (rest : List P) → place < seats → left ≡ pass ∷ rest → AreLeft known seats place left → AreLeft known seats (place + 1) rest
 rest-left {P} known seats place left pass rest lt e h = (next-left known seats place pass rest h.more lt h.count (ap (λ (ps : List P). map known ps) (sym e) ∙ h.are)).1
 
--- A session of a seat.
+-- and the next pass is as it was opened
+pub next-known : {P : Type 0} (known : P → Known) (seats place : ℕ) (left : List P) (pass : P) (rest : List P) → place < seats → left ≡ pass ∷ rest → AreLeft known seats place left → known pass ≡ opened_pass (place + 1) (service_seat seats)
+next-known {P} known seats place left pass rest lt e h = (next-left known seats place pass rest h.more lt h.count (ap (λ (ps : List P). map known ps) (sym e) ∙ h.are)).0
 
 -- One seat more.
 

@@ -1,8 +1,21 @@
-use Rattle.std.proofs.Common.{rules, ◌≡◌, ap, ◌∙◌}
+use Rattle.std.proofs.Common.{rules, ◌≡◌, ap, ◌∙◌, subst, sym}
+use Rattle.pgn_outlet.specs.declared.hand.Hand.{Hand}
 use Rattle.pgn_outlet.specs.Passes.{knows}
 use Rattle.pgn_outlet.specs.Rule.{sender, taker}
-use Rattle.pgn_run.proofs.ArmLaws.{told-by}
+use Rattle.pgn_turns.specs.declared.saying.Saying.{Saying}
+use Rattle.pgn_seats.specs.Desks.{MayServe}
+use Rattle.pgn_run.proofs.ArmLaws.{told-by, told-nothing}
 use Rattle.pgn_run.proofs.arms.serve_and_write.Goals as goal
+
+pub returns-in_default : goal.returns-in_default
+returns-in_default g c =
+    told-nothing g.K.Sink.held g.K.Sink.faults (g.H.Hub.is_pass c.args.room.now.hub.now) (g.H.Hub.shape c.args.room.now.hub.now) g.P.PassView.known c.args.room.now.inboxes.now c.args.desks.now c.args.sink.now _ c.requires.may
+
+pub serve_beside-served-requires-clause-may : goal.serve_beside-served-requires-clause-may
+serve_beside-served-requires-clause-may g c κs within =
+    let sends : knows c.in-Ok.sends ≡ sender = search rules in
+    subst (λ (v : Hand Saying). MayServe (g.H.Hub.is_pass c.args.room.now.hub.now) (g.H.Hub.shape c.args.room.now.hub.now) g.P.PassView.known c.args.room.now.inboxes.now c.args.desks.now v)
+    (sym (ap knows c.new-tells.ensures.pass ∙ sends)) c.requires.may
 
 pub returns : goal.returns
 returns g c =

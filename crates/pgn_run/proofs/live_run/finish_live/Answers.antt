@@ -1,10 +1,10 @@
-use Rattle.std.proofs.Common.{ℕ, List, length, ap, subst, ◌∙◌}
+use Rattle.std.proofs.Common.{ℕ, List, length, ap, subst, ◌∙◌, inr, refl}
 use Rattle.pgn_session.specs.declared.session.Session.{Session}
 use Rattle.pgn_run.specs.Live.{counts_of}
 use Rattle.pgn_run.specs.Run.{HasWritten}
 use Rattle.pgn_run.proofs.BareLaws.{end-bare, sessions-whole}
 use Rattle.pgn_run.proofs.LiveLaws.{ends-done, ends-prefix}
-use Rattle.pgn_run.proofs.OverLaws.{fault-over, memory-over, only-over}
+use Rattle.pgn_run.proofs.OverLaws.{fault-over, memory-over, only-over, memory-done, memory-fault}
 use Rattle.pgn_run.proofs.live_run.finish_live.Goals as goal
 
 pub returns-in-Ok-finish_run-clause-done : goal.returns-in-Ok-finish_run-clause-done
@@ -37,3 +37,33 @@ returns-in-Ok-finish_run-clause-no_memory_writes_nothing g c = memory-over _ (g.
 
 pub returns-in-Ok-finish_run-clause-only : goal.returns-in-Ok-finish_run-clause-only
 returns-in-Ok-finish_run-clause-only g c = only-over _ (g.K.Sink.held c.args.sink.now) (g.K.Sink.held c.write_end-status.new.sink) _ _ c.write_end-status.result c.write_end-status.ensures.written
+
+pub returns-in_default-clause-done : goal.returns-in_default-clause-done
+returns-in_default-clause-done g c = λ e. memory-done e
+
+pub returns-in_default-clause-write_fault : goal.returns-in_default-clause-write_fault
+returns-in_default-clause-write_fault g c = λ e. memory-fault e
+
+pub returns-in_default-clause-write_fault_writes_a_prefix : goal.returns-in_default-clause-write_fault_writes_a_prefix
+returns-in_default-clause-write_fault_writes_a_prefix g c = λ e. memory-fault e
+
+pub returns-in_default-clause-only : goal.returns-in_default-clause-only
+returns-in_default-clause-only g c = inr (inr refl)
+
+pub returns-in-Err-clause-done : goal.returns-in-Err-clause-done
+returns-in-Err-clause-done g c = λ e. memory-done e
+
+pub returns-in-Err-clause-write_fault : goal.returns-in-Err-clause-write_fault
+returns-in-Err-clause-write_fault g c = λ e. memory-fault e
+
+pub returns-in-Err-clause-write_fault_writes_a_prefix : goal.returns-in-Err-clause-write_fault_writes_a_prefix
+returns-in-Err-clause-write_fault_writes_a_prefix g c = λ e. memory-fault e
+
+pub returns-in-Err-clause-only : goal.returns-in-Err-clause-only
+returns-in-Err-clause-only g c = inr (inr refl)
+
+pub returns-in-Ok-finish_run-clause-later : goal.returns-in-Ok-finish_run-clause-later
+returns-in-Ok-finish_run-clause-later g c = c.write_end-status.ensures.later
+
+pub returns-in-Ok-finish_run-clause-write_fault_where_due : goal.returns-in-Ok-finish_run-clause-write_fault_where_due
+returns-in-Ok-finish_run-clause-write_fault_where_due g c = c.write_end-status.ensures.rose

@@ -1,7 +1,7 @@
-use Rattle.std.proofs.Common.{subst}
+use Rattle.std.proofs.Common.{subst, inr, refl}
 use Rattle.pgn_language.specs.declared.scenario.Scenario.{Scenario}
 use Rattle.pgn_run.specs.Run.{HasWritten, printed}
-use Rattle.pgn_run.proofs.OverLaws.{done-over, prefix-over, fault-over, memory-over, only-over}
+use Rattle.pgn_run.proofs.OverLaws.{done-over, prefix-over, fault-over, memory-over, only-over, memory-done, memory-fault}
 use Rattle.pgn_run.proofs.scenario_run.run_scenario.Goals as goal
 
 pub returns-in-Ok-clause-done : goal.returns-in-Ok-clause-done
@@ -22,3 +22,18 @@ returns-in-Ok-clause-no_memory_writes_nothing g c = memory-over _ (g.K.Sink.held
 
 pub returns-in-Ok-clause-only : goal.returns-in-Ok-clause-only
 returns-in-Ok-clause-only g c = only-over _ (g.K.Sink.held c.args.sink.now) (g.K.Sink.held c.write_run-status.new.sink) _ _ c.write_run-status.result c.write_run-status.ensures.written
+
+pub returns-in-Err-clause-done : goal.returns-in-Err-clause-done
+returns-in-Err-clause-done g c = λ e. memory-done e
+
+pub returns-in-Err-clause-write_fault : goal.returns-in-Err-clause-write_fault
+returns-in-Err-clause-write_fault g c = λ e. memory-fault e
+
+pub returns-in-Err-clause-write_fault_writes_a_prefix : goal.returns-in-Err-clause-write_fault_writes_a_prefix
+returns-in-Err-clause-write_fault_writes_a_prefix g c = λ e. memory-fault e
+
+pub returns-in-Err-clause-only : goal.returns-in-Err-clause-only
+returns-in-Err-clause-only g c = inr (inr refl)
+
+pub returns-in-Ok-clause-write_fault_where_due : goal.returns-in-Ok-clause-write_fault_where_due
+returns-in-Ok-clause-write_fault_where_due g c = c.write_run-status.ensures.rose

@@ -1,0 +1,114 @@
+use Rattle.std.proofs.Common.{◌∙◌, Result, Err, ap, refl, subst, sym}
+use Rattle.pgn_wire.specs.declared.wire_end.WireEnd.{WireEnd}
+use Rattle.pgn_wire.specs.declared.wire_end.WireEnd.TheVariants as end
+use Rattle.pgn_run.specs.declared.status.Status.{Status}
+use Rattle.pgn_run.specs.declared.status.Status.TheVariants.{ReadFault, WriteFault}
+use Rattle.pgn_run.proofs.wire.wire.Goals as goal
+
+-- no other status is that of a read fault, or of a write fault
+abbrev IsReadFault : Status → Type 0
+IsReadFault ReadFault = Unit {0}
+IsReadFault status = ⊥
+
+abbrev IsWriteFault : Status → Type 0
+IsWriteFault WriteFault = Unit {0}
+IsWriteFault status = ⊥
+
+-- nor is another end that of the source, or of the sink
+abbrev IsRead : {T : Type 0} → Result T WireEnd → Type 0
+IsRead (Err end.Read) = Unit {0}
+IsRead r = ⊥
+
+abbrev IsWrite : {T : Type 0} → Result T WireEnd → Type 0
+IsWrite (Err end.Write) = Unit {0}
+IsWrite r = ⊥
+
+pub returns-in-Ok-clause-answers : goal.returns-in-Ok-clause-answers
+returns-in-Ok-clause-answers g c = c.in-Ok.ensures.ends
+
+pub returns-in-Ok-clause-own : goal.returns-in-Ok-clause-own
+returns-in-Ok-clause-own g c = tt
+
+pub returns-in-Ok-clause-read_fault : goal.returns-in-Ok-clause-read_fault
+returns-in-Ok-clause-read_fault g c = λ e. absurd (subst IsReadFault (sym e) tt)
+
+pub returns-in-Ok-clause-read_fault_where_due : goal.returns-in-Ok-clause-read_fault_where_due
+returns-in-Ok-clause-read_fault_where_due g c = λ less. absurd (subst IsRead (sym (c.converse.ensures.source_rose less) ∙ c.in-Ok.is) tt)
+
+pub returns-in-Ok-clause-write_fault : goal.returns-in-Ok-clause-write_fault
+returns-in-Ok-clause-write_fault g c = λ e. absurd (subst IsWriteFault (sym e) tt)
+
+pub returns-in-Ok-clause-write_fault_where_due : goal.returns-in-Ok-clause-write_fault_where_due
+returns-in-Ok-clause-write_fault_where_due g c = λ less. absurd (subst IsWrite (sym (c.converse.ensures.sink_rose less) ∙ c.in-Ok.is) tt)
+
+pub returns-in-Err-Bad-clause-answers : goal.returns-in-Err-Bad-clause-answers
+returns-in-Err-Bad-clause-answers g c = rw c.in-Err-Bad.field-0-is at c.in-Err-Bad.ensures.ends
+
+pub returns-in-Err-Bad-clause-own : goal.returns-in-Err-Bad-clause-own
+returns-in-Err-Bad-clause-own g c = tt
+
+pub returns-in-Err-Bad-clause-read_fault : goal.returns-in-Err-Bad-clause-read_fault
+returns-in-Err-Bad-clause-read_fault g c = λ e. absurd (subst IsReadFault (sym e) tt)
+
+pub returns-in-Err-Bad-clause-read_fault_where_due : goal.returns-in-Err-Bad-clause-read_fault_where_due
+returns-in-Err-Bad-clause-read_fault_where_due g c = λ less. absurd (subst IsRead (sym (c.converse.ensures.source_rose less) ∙ c.in-Err-Bad.is ∙ ap Err c.in-Err-Bad.field-0-is) tt)
+
+pub returns-in-Err-Bad-clause-write_fault : goal.returns-in-Err-Bad-clause-write_fault
+returns-in-Err-Bad-clause-write_fault g c = λ e. absurd (subst IsWriteFault (sym e) tt)
+
+pub returns-in-Err-Bad-clause-write_fault_where_due : goal.returns-in-Err-Bad-clause-write_fault_where_due
+returns-in-Err-Bad-clause-write_fault_where_due g c = λ less. absurd (subst IsWrite (sym (c.converse.ensures.sink_rose less) ∙ c.in-Err-Bad.is ∙ ap Err c.in-Err-Bad.field-0-is) tt)
+
+pub returns-in-Err-Read-clause-answers : goal.returns-in-Err-Read-clause-answers
+returns-in-Err-Read-clause-answers g c = rw c.in-Err-Read.field-0-is at c.in-Err-Read.ensures.ends
+
+pub returns-in-Err-Read-clause-own : goal.returns-in-Err-Read-clause-own
+returns-in-Err-Read-clause-own g c = tt
+
+pub returns-in-Err-Read-clause-read_fault : goal.returns-in-Err-Read-clause-read_fault
+returns-in-Err-Read-clause-read_fault g c = λ e. c.converse.ensures.read (c.in-Err-Read.is ∙ ap Err c.in-Err-Read.field-0-is)
+
+pub returns-in-Err-Read-clause-read_fault_where_due : goal.returns-in-Err-Read-clause-read_fault_where_due
+returns-in-Err-Read-clause-read_fault_where_due g c = λ less. refl
+
+pub returns-in-Err-Read-clause-write_fault : goal.returns-in-Err-Read-clause-write_fault
+returns-in-Err-Read-clause-write_fault g c = λ e. absurd (subst IsWriteFault (sym e) tt)
+
+pub returns-in-Err-Read-clause-write_fault_where_due : goal.returns-in-Err-Read-clause-write_fault_where_due
+returns-in-Err-Read-clause-write_fault_where_due g c = λ less. absurd (subst IsWrite (sym (c.converse.ensures.sink_rose less) ∙ c.in-Err-Read.is ∙ ap Err c.in-Err-Read.field-0-is) tt)
+
+pub returns-in-Err-Write-clause-answers : goal.returns-in-Err-Write-clause-answers
+returns-in-Err-Write-clause-answers g c = rw c.in-Err-Write.field-0-is at c.in-Err-Write.ensures.ends
+
+pub returns-in-Err-Write-clause-own : goal.returns-in-Err-Write-clause-own
+returns-in-Err-Write-clause-own g c = tt
+
+pub returns-in-Err-Write-clause-read_fault : goal.returns-in-Err-Write-clause-read_fault
+returns-in-Err-Write-clause-read_fault g c = λ e. absurd (subst IsReadFault (sym e) tt)
+
+pub returns-in-Err-Write-clause-read_fault_where_due : goal.returns-in-Err-Write-clause-read_fault_where_due
+returns-in-Err-Write-clause-read_fault_where_due g c = λ less. absurd (subst IsRead (sym (c.converse.ensures.source_rose less) ∙ c.in-Err-Write.is ∙ ap Err c.in-Err-Write.field-0-is) tt)
+
+pub returns-in-Err-Write-clause-write_fault : goal.returns-in-Err-Write-clause-write_fault
+returns-in-Err-Write-clause-write_fault g c = λ e. c.converse.ensures.write (c.in-Err-Write.is ∙ ap Err c.in-Err-Write.field-0-is)
+
+pub returns-in-Err-Write-clause-write_fault_where_due : goal.returns-in-Err-Write-clause-write_fault_where_due
+returns-in-Err-Write-clause-write_fault_where_due g c = λ less. refl
+
+pub returns-in-Err-Memory-clause-answers : goal.returns-in-Err-Memory-clause-answers
+returns-in-Err-Memory-clause-answers g c = rw c.in-Err-Memory.field-0-is at c.in-Err-Memory.ensures.ends
+
+pub returns-in-Err-Memory-clause-own : goal.returns-in-Err-Memory-clause-own
+returns-in-Err-Memory-clause-own g c = tt
+
+pub returns-in-Err-Memory-clause-read_fault : goal.returns-in-Err-Memory-clause-read_fault
+returns-in-Err-Memory-clause-read_fault g c = λ e. absurd (subst IsReadFault (sym e) tt)
+
+pub returns-in-Err-Memory-clause-read_fault_where_due : goal.returns-in-Err-Memory-clause-read_fault_where_due
+returns-in-Err-Memory-clause-read_fault_where_due g c = λ less. absurd (subst IsRead (sym (c.converse.ensures.source_rose less) ∙ c.in-Err-Memory.is ∙ ap Err c.in-Err-Memory.field-0-is) tt)
+
+pub returns-in-Err-Memory-clause-write_fault : goal.returns-in-Err-Memory-clause-write_fault
+returns-in-Err-Memory-clause-write_fault g c = λ e. absurd (subst IsWriteFault (sym e) tt)
+
+pub returns-in-Err-Memory-clause-write_fault_where_due : goal.returns-in-Err-Memory-clause-write_fault_where_due
+returns-in-Err-Memory-clause-write_fault_where_due g c = λ less. absurd (subst IsWrite (sym (c.converse.ensures.sink_rose less) ∙ c.in-Err-Memory.is ∙ ap Err c.in-Err-Memory.field-0-is) tt)
