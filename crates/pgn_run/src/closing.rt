@@ -1,4 +1,4 @@
-ghost use Rattle.std.specs.Prelude.{◌≡◌, ◌++◌, true, [], ◌∷◌, length, map, IfOk, Ok, OnOk, All};
+ghost use Rattle.std.specs.Prelude.{◌≡◌, ◌++◌, true, [], ◌∷◌, length, map, Ok, OnOk, All};
 ghost use Rattle.std.specs.List.{range_with_len};
 ghost use Rattle.pgn_hub.specs.Gathered.{Gathered};
 ghost use Rattle.pgn_hub.specs.Passes.{IsWithin};

@@ -3,7 +3,7 @@ ghost use Rattle.std.specs.Io.KnownBytes.{Consumes};
 ghost use Rattle.pgn_base.specs.Outside.{Rose};
 
 use pgn_base::Source;
-use std::alloc::{AllocError, Global};
+use std::alloc::Global;
 
 /// Why an input was not read.
 #[derive(Clone, Copy)]
