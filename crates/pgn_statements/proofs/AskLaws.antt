@@ -1,14 +1,10 @@
 -- How what is told is what a text asks for.
 use Rattle.std.proofs.Common.{◌≡◌, ℕ, zero, suc, ◌-◌, ◌<◌, ◌≤◌, Bool, true, false, cond, List, [], ◌∷◌, ◌++◌, length, Option, None, Some, Result, Ok, Err, IfOk, OnOk, sym, ap, ◌∙◌, refl, arith}
-use denote.Ref.{Bor}
-use Rattle.std.specs.Prelude.{is_some, codes}
+use Rattle.std.specs.Prelude.{codes}
 use Rattle.std.proofs.lemmas.Bool.{false≢true}
 use Rattle.pgn_language.specs.Tokens as model
-use Rattle.pgn_command.specs.declared.token.Lexeme.{Lexeme}
 use Rattle.pgn_requests.specs.declared.setting.Setting.{Setting}
-use Rattle.pgn_requests.specs.declared.setting.Setting.TheVariants as setting
-use Rattle.pgn_requests.specs.Phrases.{going, is_one, value_of, given_asks, valued_asks, past_mode, past_comma, is_end, are_modes, setting_asks, assigned_asks, after_one, after_two}
-use Rattle.pgn_statements.specs.Lexemes.{GoesOn}
+use Rattle.pgn_requests.specs.Phrases.{going, is_one, unread, value_of, given_asks, valued_asks, past_mode, past_comma, is_end, are_modes}
 use Rattle.pgn_statements.specs.Steps.{IsPut}
 use Rattle.pgn_bodies.proofs.PlainLaws.{pick_no}
 
@@ -27,18 +23,9 @@ pub pick_yes : {A : Type 0} (x : Bool) (one other : A) → x ≡ true → cond x
 pick_yes true one other e = refl
 pick_yes false one other e = absurd (false≢true e)
 
--- what follows some words, and what does not
-pub going-none : {A : Type 0} (o : Option (List model.Lexeme)) (goes : List model.Lexeme → A) (otherwise : A) → o ≡ None → going o goes otherwise ≡ otherwise
-going-none None goes otherwise e = refl
-going-none (Some rest) goes otherwise e = absurd (cc)
-
+-- what follows some words
 pub going-some : {A : Type 0} (o : Option (List model.Lexeme)) (rest : List model.Lexeme) (goes : List model.Lexeme → A) (otherwise : A) → o ≡ Some rest → going o goes otherwise ≡ goes rest
 going-some o rest goes otherwise e = ap (λ (some : Option (List model.Lexeme)). going some goes otherwise) e
-
--- tokens that do not go on so by the code do not by the definition
-pub goes-none : (result : Option (Bor (List Lexeme))) (told : Option (List model.Lexeme)) → GoesOn result told → is_some result ≡ false → told ≡ None
-goes-none None told g e = g
-goes-none (Some rest) told g e = absurd (false≢true (sym e))
 
 -- modes after a mode
 end-no : (rest : List model.Lexeme) → 1 ≤ length rest → is_end rest ≡ false
@@ -57,25 +44,17 @@ pub put-some : (told : Bool) (old new : List ℕ) (value : Option (List ℕ)) �
 put-some told old new None p t e = absurd (false≢true (sym p ∙ t))
 put-some told old new (Some some) p t e = ap (λ (l : List ℕ). Some l) (sym (p.1 ∙ ap (λ (l : List ℕ). l ++ some) e))
 
+-- none was put
+pub put-none : (told : Bool) (old new : List ℕ) (value : Option (List ℕ)) → IsPut told old new value → told ≡ false → value ≡ None
+put-none told old new None p f = refl
+put-none told old new (Some some) p f = absurd (false≢true (sym f ∙ p.0))
+
+-- what is no value
+pub valued-none : (text : List ℕ) (at : ℕ) (starts : Bool) (lexemes : List model.Lexeme) (one : Setting) → is_one (codes "default") lexemes ≡ false → value_of lexemes ≡ None
+    → valued_asks text at starts lexemes one ≡ unread text at
+valued-none text at starts lexemes one e f = pick_no (is_one (codes "default") lexemes) _ (given_asks text at starts one (value_of lexemes)) e ∙ ap (given_asks text at starts one) f
+
 -- a value that is not DEFAULT
 pub valued-given : (text : List ℕ) (at : ℕ) (starts : Bool) (lexemes : List model.Lexeme) (one : Setting) (value : List ℕ) → is_one (codes "default") lexemes ≡ false → value_of lexemes ≡ Some value
     → valued_asks text at starts lexemes one ≡ given_asks text at starts one (Some value)
 valued-given text at starts lexemes one value e f = pick_no (is_one (codes "default") lexemes) _ (given_asks text at starts one (value_of lexemes)) e ∙ ap (given_asks text at starts one) f
-
--- after SET
-pub set-names : (text : List ℕ) (at : ℕ) (lexemes rest : List model.Lexeme) → after_one (codes "local") lexemes ≡ None → after_one (codes "names") lexemes ≡ Some rest
-    → setting_asks text at lexemes ≡ valued_asks text at false rest setting.ClientEncoding
-set-names text at lexemes rest e f = going-none (after_one (codes "local") lexemes) _ _ e ∙ going-some (after_one (codes "names") lexemes) rest _ _ f
-
--- SET STARTUP is a setting that starts
-pub set-startup : (text : List ℕ) (at : ℕ) (lexemes rest : List model.Lexeme) → after_one (codes "local") lexemes ≡ None → after_one (codes "names") lexemes ≡ None → after_one (codes "startup") lexemes ≡ Some rest
-    → setting_asks text at lexemes ≡ assigned_asks text at true rest
-set-startup text at lexemes rest e f g =
-    going-none (after_one (codes "local") lexemes) _ _ e ∙ going-none (after_one (codes "names") lexemes) _ _ f ∙ going-some (after_one (codes "startup") lexemes) rest _ _ g
-
--- SET SESSION AUTHORIZATION is that setting
-pub set-user : (text : List ℕ) (at : ℕ) (lexemes rest : List model.Lexeme) → after_one (codes "local") lexemes ≡ None → after_one (codes "names") lexemes ≡ None → after_one (codes "startup") lexemes ≡ None
-    → after_two (codes "session") (codes "authorization") lexemes ≡ Some rest → setting_asks text at lexemes ≡ valued_asks text at false rest setting.SessionAuthorization
-set-user text at lexemes rest e f g h =
-    going-none (after_one (codes "local") lexemes) _ _ e ∙ going-none (after_one (codes "names") lexemes) _ _ f ∙ going-none (after_one (codes "startup") lexemes) _ _ g
-    ∙ going-some (after_two (codes "session") (codes "authorization") lexemes) rest _ _ h

@@ -3,3 +3,4 @@ pub mod LexemeLaws
 pub mod StepLaws
 pub mod AskLaws
 pub mod CallLaws
+pub mod ChoiceLaws

@@ -1,16 +1,30 @@
--- Some of the values that a setting can have.
-use Rattle.std.specs.Prelude.{ℕ, cond, List, bytes_eq, codes, Option, None, Some}
+-- Settings by their names, and values of them by words.
+use Rattle.std.specs.Prelude.{ℕ, Bool, true, not, cond, ◌&&◌, nat_le, List, [], ◌∷◌, length, bytes_eq, Option, None, Some}
+use Rattle.std.specs.Char.{is_ascii_alphanumeric}
+use Rattle.std.specs.Str.{str_eq_ignore_ascii_case}
+use Rattle.pgn_language.specs.Tokens.{is_blank}
+use Rattle.pgn_requests.specs.declared.setting.Setting.{Setting}
+use Rattle.pgn_requests.specs.Settings.{setting_name}
 
--- how many digits of a float are shown beyond what is usual, from -6 down
-abbrev pub fewer_digits : List ℕ → Option (List ℕ)
-fewer_digits value =
-    cond (bytes_eq (codes "-6") value) (Some (codes "-6"))
-    (cond (bytes_eq (codes "-7") value) (Some (codes "-7"))
-    (cond (bytes_eq (codes "-8") value) (Some (codes "-8"))
-    (cond (bytes_eq (codes "-9") value) (Some (codes "-9"))
-    (cond (bytes_eq (codes "-10") value) (Some (codes "-10"))
-    (cond (bytes_eq (codes "-11") value) (Some (codes "-11"))
-    (cond (bytes_eq (codes "-12") value) (Some (codes "-12"))
-    (cond (bytes_eq (codes "-13") value) (Some (codes "-13"))
-    (cond (bytes_eq (codes "-14") value) (Some (codes "-14"))
-    (cond (bytes_eq (codes "-15") value) (Some (codes "-15")) None)))))))))
+-- the first of these settings that has this name, without regard to ASCII case
+abbrev pub named_among : List Setting → List ℕ → Option Setting
+named_among [] name = None
+named_among (one ∷ settings) name = cond (str_eq_ignore_ascii_case (setting_name one) name) (Some one) (named_among settings name)
+
+-- the bytes are this word, with regard to ASCII case or without
+abbrev pub is_same : Bool → List ℕ → List ℕ → Bool
+is_same cased word bytes = cond cased (bytes_eq word bytes) (str_eq_ignore_ascii_case word bytes)
+
+-- a letter or a digit is kept where only these are, and else all but a blank
+abbrev pub is_kept : Bool → ℕ → Bool
+is_kept letters byte = cond letters (is_ascii_alphanumeric byte) (not (is_blank byte))
+
+-- what stands beside the first of these words that the bytes are
+abbrev pub beside : Bool → List (List ℕ × List ℕ) → List ℕ → Option (List ℕ)
+beside cased [] bytes = None
+beside cased (row ∷ rows) bytes = cond (is_same cased row.0 bytes) (Some row.1) (beside cased rows bytes)
+
+-- what stands beside them is short
+abbrev pub are_short : List (List ℕ × List ℕ) → Bool
+are_short [] = true
+are_short (row ∷ rows) = nat_le (length row.1) 16 && are_short rows

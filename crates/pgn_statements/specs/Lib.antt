@@ -4,5 +4,5 @@ pub mod Lexemes
 pub mod Calls
 -- what the steps of the reading give
 pub mod Steps
--- some of the values that a setting can have
+-- settings by their names, and values of them by words
 pub mod Choices

@@ -1,9 +1,11 @@
-ghost use Rattle.std.specs.Prelude.{◌≡◌, ◌≤◌, length, map, option_map, IfOk, IfSome};
+ghost use Rattle.std.specs.Prelude.{◌≡◌, ◌≤◌, filter, length, map, option_map, IfOk, IfSome};
+ghost use Rattle.std.specs.Str.{str_to_ascii_lowercase};
 ghost use Rattle.pgn_requests.specs.declared.setting.Setting.TheVariants as setting;
-ghost use Rattle.pgn_requests.specs.Values.{accepted, chosen, closed_up, encoding, letters_of, only_on, shown_byte};
+ghost use Rattle.pgn_requests.specs.Values.{accepted, chosen, encoding, only_on, shown_byte};
+ghost use Rattle.pgn_statements.specs.Choices.{is_kept};
 
 use crate::choices::{
-    date_style, float_digits, interval_style, is_text, isolation, message_level, says_off, says_on,
+    date_style, float_digits, interval_style, is_same, isolation, message_level, says_off, says_on,
     switch,
 };
 use crate::encodings::is_encoding;
@@ -30,7 +32,7 @@ pub fn accepted(alloc: Global, setting: Setting, value: &str) -> Result<Verdict,
         Setting::StandardConformingStrings => only_on(alloc, value),
         Setting::TimeZone => zone(alloc, value),
         Setting::ClientMinMessages => chosen(alloc, message_level(value)),
-        Setting::ExtraFloatDigits => chosen(alloc, float_digits(value.as_bytes())),
+        Setting::ExtraFloatDigits => chosen(alloc, float_digits(value)),
         Setting::TransactionIsolation => chosen(alloc, isolation(value)),
         Setting::TransactionReadOnly => chosen(alloc, switch(value)),
     }
@@ -89,17 +91,17 @@ fn shown_byte(byte: u8) -> u8
 fn encoding(alloc: Global, value: &str) -> Result<Verdict, AllocError>
     ensures { IfOk result (λ verdict. verdict ≡ accepted setting.ClientEncoding value.now) }
 {
-    let letters = letters_of(alloc, value.as_bytes())?;
+    let letters = lowered(alloc, value.as_bytes(), true)?;
     encoding_of(alloc, letters.as_slice())
 }
 
 fn encoding_of(alloc: Global, letters: &[u8]) -> Result<Verdict, AllocError>
     ensures { IfOk result (λ verdict. verdict ≡ encoding letters.now) }
 {
-    if is_text(letters, "utf8") || is_text(letters, "unicode") {
+    if is_same(true, "utf8", letters) || is_same(true, "unicode", letters) {
         return becomes(alloc, "UTF8");
     }
-    if is_text(letters, "sqlascii") {
+    if is_same(true, "sqlascii", letters) {
         return becomes(alloc, "SQL_ASCII");
     }
     if is_encoding(letters) {
@@ -108,40 +110,36 @@ fn encoding_of(alloc: Global, letters: &[u8]) -> Result<Verdict, AllocError>
     Ok(Verdict::Invalid)
 }
 
-// The letters and digits in lower case.
-fn letters_of(alloc: Global, bytes: &[u8]) -> Result<Vec<u8>, AllocError>
-    ensures { IfOk result (λ made. made.items ≡ letters_of bytes.now) }
+// What is kept of a value, in lower case.
+fn lowered(alloc: Global, bytes: &[u8], letters: bool) -> Result<Vec<u8>, AllocError>
+    ensures { IfOk result (λ made. made.items ≡ str_to_ascii_lowercase (filter (is_kept letters) bytes.now)) }
 {
     let mut made = Vec::with_capacity(alloc, bytes.len())?;
     for byte in bytes {
-        if byte.is_ascii_alphanumeric() {
-            made.push(*byte)?;
+        if is_kept(letters, *byte) {
+            made.push(byte.to_ascii_lowercase())?;
         }
     }
-    made.as_mut_slice().make_ascii_lowercase();
     Ok(made)
+}
+
+// A letter or a digit is kept where only these are, and else all but a blank.
+fn is_kept(letters: bool, byte: u8) -> bool
+    ensures { result ≡ is_kept letters byte }
+{
+    if letters {
+        byte.is_ascii_alphanumeric()
+    } else {
+        !is_blank(byte)
+    }
 }
 
 // A style of dates.
 fn dates(alloc: Global, value: &str) -> Result<Verdict, AllocError>
     ensures { IfOk result (λ verdict. verdict ≡ accepted setting.DateStyle value.now) }
 {
-    let words = closed_up(alloc, value.as_bytes())?;
+    let words = lowered(alloc, value.as_bytes(), false)?;
     chosen(alloc, date_style(words.as_slice()))
-}
-
-// All but the blanks in lower case.
-fn closed_up(alloc: Global, bytes: &[u8]) -> Result<Vec<u8>, AllocError>
-    ensures { IfOk result (λ made. made.items ≡ closed_up bytes.now) }
-{
-    let mut made = Vec::with_capacity(alloc, bytes.len())?;
-    for byte in bytes {
-        if !is_blank(*byte) {
-            made.push(*byte)?;
-        }
-    }
-    made.as_mut_slice().make_ascii_lowercase();
-    Ok(made)
 }
 
 // Only on, since the service knows no other literals.

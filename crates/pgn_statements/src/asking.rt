@@ -3,7 +3,7 @@ ghost use Rattle.pgn_base.specs.declared.limits.TheConstants.{LINE_BYTES_MAX};
 ghost use Rattle.pgn_requests.specs.Phrases as told;
 ghost use Rattle.pgn_statements.specs.Lexemes.{meant, all_meant};
 ghost use Rattle.pgn_statements.specs.Calls.{CallIsValid};
-ghost use Rattle.pgn_statements.specs.Steps.{Gives};
+ghost use Rattle.pgn_statements.specs.Steps.{Gives, asks_beside};
 
 use crate::assigning::{reset, set, show};
 use crate::calls::called;
@@ -75,6 +75,19 @@ fn asked_by(
     if is_key(first, "show") {
         return show(alloc, text, at, rest);
     }
+    asked_beside(alloc, text, at, first, rest)
+}
+
+// The same, where they ask for no setting.
+fn asked_beside(
+    alloc: Global,
+    text: &str,
+    at: u32,
+    first: &Lexeme<'_>,
+    rest: &[Lexeme<'_>],
+) -> Result<Request, AllocError>
+    ensures { Gives result (asks_beside text.now at (meant first.now) (all_meant rest.now)) }
+{
     if is_key(first, "begin") {
         return begin(alloc, text, at, rest);
     }

@@ -4,17 +4,17 @@ ghost use Rattle.pgn_requests.specs.declared.settled.Settled.TheVariants as sett
 ghost use Rattle.pgn_requests.specs.Texts.{one_line};
 ghost use Rattle.pgn_requests.specs.Phrases as told;
 ghost use Rattle.pgn_statements.specs.Lexemes.{meant, all_meant};
-ghost use Rattle.pgn_statements.specs.Steps.{Gives};
+ghost use Rattle.pgn_statements.specs.Steps.{Gives, here_asks, of_setting_asks, user_asks};
 
 use crate::accepting::accepted;
-use crate::complaining::{bad_value, fixed, no_setting, refused, unsupported};
+use crate::complaining::{bad_value, fixed, no_setting, refused, refused_as, unsupported};
 use crate::lines::unread;
 use crate::settings_named::setting_named;
 use crate::values::put_values;
 use crate::words::{after_one, after_two, are_three, are_two, is_key, is_name, is_one};
 use pgn_command::Lexeme;
 use pgn_quotes::unquoted;
-use pgn_requests::{Cause, Request, Setting, Settled, ShortText, Verdict};
+use pgn_requests::{Cause, Request, Setting, Settled, Verdict};
 use std::alloc::{AllocError, Global};
 
 // A setting that gets a value, and whether this comes of the start-up.
@@ -33,10 +33,27 @@ pub fn set(
 ) -> Result<Request, AllocError>
     ensures { Gives result (told.setting_asks text.now at (all_meant lexemes.now)) }
 {
-    if after_one(lexemes, "local").is_some() {
-        let words = ShortText::new(alloc, "SET LOCAL is not supported")?;
-        return refused(alloc, text, at, Cause::Unsupported, words);
+    match after_one(lexemes, "local") {
+        Some(_) => refused_as(
+            alloc,
+            text,
+            at,
+            Cause::Unsupported,
+            "SET LOCAL is not supported",
+        ),
+        None => set_here(alloc, text, at, lexemes),
     }
+}
+
+// After SET, where it is not LOCAL.
+fn set_here(
+    alloc: Global,
+    text: &str,
+    at: u32,
+    lexemes: &[Lexeme<'_>],
+) -> Result<Request, AllocError>
+    ensures { Gives result (here_asks text.now at (all_meant lexemes.now)) }
+{
     if let Some(rest) = after_one(lexemes, "names") {
         return valued(
             alloc,
@@ -49,9 +66,21 @@ pub fn set(
             },
         );
     }
-    if let Some(rest) = after_one(lexemes, "startup") {
-        return assigned(alloc, text, at, true, rest);
+    match after_one(lexemes, "startup") {
+        Some(rest) => assigned(alloc, text, at, true, rest),
+        None => set_user(alloc, text, at, lexemes),
     }
+}
+
+// After SET, where it is none of these.
+fn set_user(
+    alloc: Global,
+    text: &str,
+    at: u32,
+    lexemes: &[Lexeme<'_>],
+) -> Result<Request, AllocError>
+    ensures { Gives result (user_asks text.now at (all_meant lexemes.now)) }
+{
     if let Some(rest) = after_two(lexemes, "session", "authorization") {
         return valued(
             alloc,
@@ -217,13 +246,7 @@ pub fn reset(
     if is_one(lexemes, "all") {
         return Ok(Request::Settles(Settled::ResetsAll));
     }
-    if are_two(lexemes, "session", "authorization") {
-        return Ok(reset_to_start(Setting::SessionAuthorization));
-    }
-    if are_two(lexemes, "time", "zone") {
-        return Ok(reset_to_start(Setting::TimeZone));
-    }
-    named(alloc, text, at, false, lexemes)
+    of_setting(alloc, text, at, false, lexemes)
 }
 
 /// After SHOW.
@@ -238,13 +261,26 @@ pub fn show(
     if are_three(lexemes, "transaction", "isolation", "level") {
         return Ok(shown(Setting::TransactionIsolation));
     }
+    of_setting(alloc, text, at, true, lexemes)
+}
+
+// A setting that is shown or reset, by one or two words, and nothing else.
+fn of_setting(
+    alloc: Global,
+    text: &str,
+    at: u32,
+    shows: bool,
+    lexemes: &[Lexeme<'_>],
+) -> Result<Request, AllocError>
+    ensures { Gives result (of_setting_asks text.now at shows (all_meant lexemes.now)) }
+{
     if are_two(lexemes, "session", "authorization") {
-        return Ok(shown(Setting::SessionAuthorization));
+        return settles(alloc, text, at, shows, Setting::SessionAuthorization);
     }
     if are_two(lexemes, "time", "zone") {
-        return Ok(shown(Setting::TimeZone));
+        return settles(alloc, text, at, shows, Setting::TimeZone);
     }
-    named(alloc, text, at, true, lexemes)
+    named(alloc, text, at, shows, lexemes)
 }
 
 // A name of a setting that is shown or reset, and nothing else.
@@ -291,13 +327,6 @@ fn shown(setting: Setting) -> Request
     ensures { result ≡ Request.Settles (settled.Shows setting) }
 {
     Request::Settles(Settled::Shows { setting })
-}
-
-// One that can be changed is reset.
-fn reset_to_start(setting: Setting) -> Request
-    ensures { result ≡ Request.Settles (settled.Resets setting) }
-{
-    Request::Settles(Settled::Resets { setting })
 }
 
 // No setting has this name.

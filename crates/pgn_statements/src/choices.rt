@@ -1,97 +1,106 @@
-ghost use Rattle.std.specs.Prelude.{◌≡◌, ◌≤◌, length, bytes_eq, option_map, IfSome};
-ghost use Rattle.pgn_requests.specs.Values.{date_style, float_digits, interval_style, isolation, message_level, older_style, says_off, says_on, switch};
-ghost use Rattle.pgn_statements.specs.Choices.{fewer_digits};
+ghost use Rattle.std.specs.Prelude.{◌≡◌, ◌≤◌, length, map, option_map, IfSome, true};
+ghost use Rattle.std.specs.List.{list_any};
+ghost use Rattle.pgn_requests.specs.Values.{date_style, float_digits, interval_style, isolation, message_level, says_off, says_on, switch};
+ghost use Rattle.pgn_statements.specs.Choices.{are_short, beside, is_same};
 
-use pgn_command::is_word;
+// Each has a word, and the value that is meant by it.
+const DATE_STYLES: [(&str, &str); 19] = [
+    ("iso", "ISO, MDY"),
+    ("mdy", "ISO, MDY"),
+    ("iso,mdy", "ISO, MDY"),
+    ("dmy", "ISO, DMY"),
+    ("iso,dmy", "ISO, DMY"),
+    ("ymd", "ISO, YMD"),
+    ("iso,ymd", "ISO, YMD"),
+    ("sql", "SQL, MDY"),
+    ("sql,mdy", "SQL, MDY"),
+    ("sql,dmy", "SQL, DMY"),
+    ("sql,ymd", "SQL, YMD"),
+    ("postgres", "Postgres, MDY"),
+    ("postgres,mdy", "Postgres, MDY"),
+    ("postgres,dmy", "Postgres, DMY"),
+    ("postgres,ymd", "Postgres, YMD"),
+    ("german", "German, DMY"),
+    ("german,dmy", "German, DMY"),
+    ("german,mdy", "German, MDY"),
+    ("german,ymd", "German, YMD"),
+];
 
-/// The bytes are this text.
-pub fn is_text(bytes: &[u8], text: &str) -> bool
-    ensures { result ≡ bytes_eq text.now bytes.now }
-{
-    text.as_bytes() == bytes
-}
+const ON: [&str; 9] = ["on", "true", "tru", "tr", "t", "yes", "ye", "y", "1"];
+
+const OFF: [&str; 10] = [
+    "off", "of", "false", "fals", "fal", "fa", "f", "no", "n", "0",
+];
+
+const INTERVAL_STYLES: [(&str, &str); 4] = [
+    ("postgres", "postgres"),
+    ("postgres_verbose", "postgres_verbose"),
+    ("sql_standard", "sql_standard"),
+    ("iso_8601", "iso_8601"),
+];
+
+const MESSAGE_LEVELS: [(&str, &str); 10] = [
+    ("debug5", "debug5"),
+    ("debug4", "debug4"),
+    ("debug3", "debug3"),
+    ("debug2", "debug2"),
+    ("debug", "debug2"),
+    ("debug1", "debug1"),
+    ("log", "log"),
+    ("notice", "notice"),
+    ("warning", "warning"),
+    ("error", "error"),
+];
+
+const ISOLATIONS: [(&str, &str); 4] = [
+    ("serializable", "serializable"),
+    ("repeatable read", "repeatable read"),
+    ("read committed", "read committed"),
+    ("read uncommitted", "read uncommitted"),
+];
+
+const FLOAT_DIGITS: [(&str, &str); 19] = [
+    ("3", "3"),
+    ("2", "2"),
+    ("1", "1"),
+    ("0", "0"),
+    ("-1", "-1"),
+    ("-2", "-2"),
+    ("-3", "-3"),
+    ("-4", "-4"),
+    ("-5", "-5"),
+    ("-6", "-6"),
+    ("-7", "-7"),
+    ("-8", "-8"),
+    ("-9", "-9"),
+    ("-10", "-10"),
+    ("-11", "-11"),
+    ("-12", "-12"),
+    ("-13", "-13"),
+    ("-14", "-14"),
+    ("-15", "-15"),
+];
 
 /// A style of dates by its words.
 pub fn date_style(words: &[u8]) -> Option<&'static str>
     ensures value { option_map (λ text. text.now) result ≡ date_style words.now }
     ensures short { IfSome result (λ text. length text.now ≤ 16) }
 {
-    if is_text(words, "iso") || is_text(words, "mdy") || is_text(words, "iso,mdy") {
-        return Some("ISO, MDY");
-    }
-    if is_text(words, "dmy") || is_text(words, "iso,dmy") {
-        return Some("ISO, DMY");
-    }
-    if is_text(words, "ymd") || is_text(words, "iso,ymd") {
-        return Some("ISO, YMD");
-    }
-    if is_text(words, "sql") || is_text(words, "sql,mdy") {
-        return Some("SQL, MDY");
-    }
-    if is_text(words, "sql,dmy") {
-        return Some("SQL, DMY");
-    }
-    if is_text(words, "sql,ymd") {
-        return Some("SQL, YMD");
-    }
-    older_style(words)
-}
-
-// The older styles of dates.
-fn older_style(words: &[u8]) -> Option<&'static str>
-    ensures value { option_map (λ text. text.now) result ≡ older_style words.now }
-    ensures short { IfSome result (λ text. length text.now ≤ 16) }
-{
-    if is_text(words, "postgres") || is_text(words, "postgres,mdy") {
-        return Some("Postgres, MDY");
-    }
-    if is_text(words, "postgres,dmy") {
-        return Some("Postgres, DMY");
-    }
-    if is_text(words, "postgres,ymd") {
-        return Some("Postgres, YMD");
-    }
-    if is_text(words, "german") || is_text(words, "german,dmy") {
-        return Some("German, DMY");
-    }
-    if is_text(words, "german,mdy") {
-        return Some("German, MDY");
-    }
-    if is_text(words, "german,ymd") {
-        return Some("German, YMD");
-    }
-    None
+    beside(true, &DATE_STYLES, words)
 }
 
 /// On, or a beginning of true or of yes, or 1.
 pub fn says_on(value: &str) -> bool
     ensures { result ≡ says_on value.now }
 {
-    is_word(value, "on")
-        || is_word(value, "true")
-        || is_word(value, "tru")
-        || is_word(value, "tr")
-        || is_word(value, "t")
-        || is_word(value, "yes")
-        || is_word(value, "ye")
-        || is_word(value, "y")
-        || is_word(value, "1")
+    is_among(false, &ON, value.as_bytes())
 }
 
 /// Off, or a beginning of it that is not one of on, or a beginning of false or of no, or 0.
 pub fn says_off(value: &str) -> bool
     ensures { result ≡ says_off value.now }
 {
-    is_word(value, "off")
-        || is_word(value, "of")
-        || is_word(value, "false")
-        || is_word(value, "fals")
-        || is_word(value, "fal")
-        || is_word(value, "fa")
-        || is_word(value, "f")
-        || is_word(value, "no")
-        || is_word(value, "n")
-        || is_word(value, "0")
+    is_among(false, &OFF, value.as_bytes())
 }
 
 /// On or off.
@@ -113,19 +122,7 @@ pub fn interval_style(value: &str) -> Option<&'static str>
     ensures value { option_map (λ text. text.now) result ≡ interval_style value.now }
     ensures short { IfSome result (λ text. length text.now ≤ 16) }
 {
-    if is_word(value, "postgres") {
-        return Some("postgres");
-    }
-    if is_word(value, "postgres_verbose") {
-        return Some("postgres_verbose");
-    }
-    if is_word(value, "sql_standard") {
-        return Some("sql_standard");
-    }
-    if is_word(value, "iso_8601") {
-        return Some("iso_8601");
-    }
-    None
+    beside(false, &INTERVAL_STYLES, value.as_bytes())
 }
 
 /// Which messages a client is told.
@@ -133,34 +130,7 @@ pub fn message_level(value: &str) -> Option<&'static str>
     ensures value { option_map (λ text. text.now) result ≡ message_level value.now }
     ensures short { IfSome result (λ text. length text.now ≤ 16) }
 {
-    if is_word(value, "debug5") {
-        return Some("debug5");
-    }
-    if is_word(value, "debug4") {
-        return Some("debug4");
-    }
-    if is_word(value, "debug3") {
-        return Some("debug3");
-    }
-    if is_word(value, "debug2") || is_word(value, "debug") {
-        return Some("debug2");
-    }
-    if is_word(value, "debug1") {
-        return Some("debug1");
-    }
-    if is_word(value, "log") {
-        return Some("log");
-    }
-    if is_word(value, "notice") {
-        return Some("notice");
-    }
-    if is_word(value, "warning") {
-        return Some("warning");
-    }
-    if is_word(value, "error") {
-        return Some("error");
-    }
-    None
+    beside(false, &MESSAGE_LEVELS, value.as_bytes())
 }
 
 /// How transactions are kept apart.
@@ -168,90 +138,55 @@ pub fn isolation(value: &str) -> Option<&'static str>
     ensures value { option_map (λ text. text.now) result ≡ isolation value.now }
     ensures short { IfSome result (λ text. length text.now ≤ 16) }
 {
-    if is_word(value, "serializable") {
-        return Some("serializable");
-    }
-    if is_word(value, "repeatable read") {
-        return Some("repeatable read");
-    }
-    if is_word(value, "read committed") {
-        return Some("read committed");
-    }
-    if is_word(value, "read uncommitted") {
-        return Some("read uncommitted");
-    }
-    None
+    beside(false, &ISOLATIONS, value.as_bytes())
 }
 
 /// How many digits of a float are shown beyond what is usual: -15 to 3.
-pub fn float_digits(value: &[u8]) -> Option<&'static str>
+pub fn float_digits(value: &str) -> Option<&'static str>
     ensures value { option_map (λ text. text.now) result ≡ float_digits value.now }
     ensures short { IfSome result (λ text. length text.now ≤ 16) }
 {
-    if is_text(value, "3") {
-        return Some("3");
-    }
-    if is_text(value, "2") {
-        return Some("2");
-    }
-    if is_text(value, "1") {
-        return Some("1");
-    }
-    if is_text(value, "0") {
-        return Some("0");
-    }
-    if is_text(value, "-1") {
-        return Some("-1");
-    }
-    if is_text(value, "-2") {
-        return Some("-2");
-    }
-    if is_text(value, "-3") {
-        return Some("-3");
-    }
-    if is_text(value, "-4") {
-        return Some("-4");
-    }
-    if is_text(value, "-5") {
-        return Some("-5");
-    }
-    fewer_digits(value)
+    beside(true, &FLOAT_DIGITS, value.as_bytes())
 }
 
-// From -6 down.
-fn fewer_digits(value: &[u8]) -> Option<&'static str>
-    ensures value { option_map (λ text. text.now) result ≡ fewer_digits value.now }
+// The value beside the first of some words that the bytes are, with regard to ASCII case or without.
+fn beside(
+    cased: bool,
+    mut rows: &[(&'static str, &'static str)],
+    bytes: &[u8],
+) -> Option<&'static str>
+    requires { are_short (map (λ row. (row.0.now, row.1.now)) rows.now) ≡ true }
+    ensures value { option_map (λ text. text.now) result ≡ beside cased (map (λ row. (row.0.now, row.1.now)) rows.entry.now) bytes.now }
     ensures short { IfSome result (λ text. length text.now ≤ 16) }
 {
-    if is_text(value, "-6") {
-        return Some("-6");
-    }
-    if is_text(value, "-7") {
-        return Some("-7");
-    }
-    if is_text(value, "-8") {
-        return Some("-8");
-    }
-    if is_text(value, "-9") {
-        return Some("-9");
-    }
-    if is_text(value, "-10") {
-        return Some("-10");
-    }
-    if is_text(value, "-11") {
-        return Some("-11");
-    }
-    if is_text(value, "-12") {
-        return Some("-12");
-    }
-    if is_text(value, "-13") {
-        return Some("-13");
-    }
-    if is_text(value, "-14") {
-        return Some("-14");
-    }
-    if is_text(value, "-15") {
-        return Some("-15");
+    while let [row, rest @ ..] = rows {
+        if is_same(cased, row.0, bytes) {
+            return Some(row.1);
+        }
+        rows = rest;
     }
     None
+}
+
+/// The bytes are one of these words, with regard to ASCII case or without.
+pub fn is_among(cased: bool, words: &[&str], bytes: &[u8]) -> bool
+    ensures { result ≡ list_any (λ word. is_same cased word.now bytes.now) words.now }
+{
+    for word in words {
+        if is_same(cased, word, bytes) {
+            return true;
+        }
+    }
+    false
+}
+
+/// The bytes are this word, with regard to ASCII case or without.
+pub fn is_same(cased: bool, word: &str, bytes: &[u8]) -> bool
+    ensures { result ≡ is_same cased word.now bytes.now }
+{
+    if cased {
+        word.as_bytes() == bytes
+    } else {
+        word.as_bytes().eq_ignore_ascii_case(bytes)
+    }
 }

@@ -1,4 +1,4 @@
-ghost use Rattle.std.specs.Prelude.{◌≡◌, ◌≤◌, length, IfOk};
+ghost use Rattle.std.specs.Prelude.{◌≡◌, ◌≤◌, ◌++◌, length, IfOk};
 ghost use Rattle.pgn_requests.specs.Texts.{one_line};
 ghost use Rattle.pgn_requests.specs.Phrases as told;
 ghost use Rattle.pgn_statements.specs.Steps.{Gives};
@@ -6,7 +6,9 @@ ghost use Rattle.pgn_statements.specs.Steps.{Gives};
 use crate::lines::line;
 use pgn_base::{Command, Which};
 use pgn_command::cut;
-use pgn_requests::{Cause, Complaint, Request, Setting, ShortText, Wording, setting_name};
+use pgn_requests::{
+    Cause, Complaint, Request, SHORT_BYTES_MAX, Setting, ShortText, Wording, setting_name,
+};
 use std::alloc::{AllocError, Global};
 
 /// The most bytes of a complaint.
@@ -31,6 +33,21 @@ pub fn refused(
     )
 }
 
+/// The same in words that are at hand.
+pub fn refused_as(
+    alloc: Global,
+    text: &str,
+    at: u32,
+    cause: Cause,
+    words: &str,
+) -> Result<Request, AllocError>
+    requires { length words.now ≤ SHORT_BYTES_MAX }
+    ensures { Gives result (told.refused (one_line text.now) at cause words.now) }
+{
+    let words = ShortText::new(alloc, words)?;
+    refused(alloc, text, at, cause, words)
+}
+
 // The command that the session refuses for this cause, where the text is at fault at this byte.
 fn refused_by(cause: Cause, at: u32) -> Command
     ensures { result ≡ told.refused_by cause at }
@@ -47,46 +64,57 @@ fn refused_by(cause: Cause, at: u32) -> Command
 pub fn no_setting(alloc: Global, name: &str) -> Result<ShortText, AllocError>
     ensures { IfOk result (λ words. words ≡ told.no_setting name.now) }
 {
-    let mut words = String::with_capacity(alloc, WORDS_BYTES_MAX)?;
-    words.push_str("unrecognized configuration parameter \"")?;
-    words.push_str(told_value(name))?;
-    words.push_str("\"")?;
-    ShortText::new(alloc, words.as_str())
+    let name = told_value(name);
+    let head = "unrecognized configuration parameter \"";
+    words_of(alloc, "", "", head, name, "\"")
 }
 
 /// A setting cannot have this value.
 pub fn bad_value(alloc: Global, setting: Setting, value: &str) -> Result<ShortText, AllocError>
     ensures { IfOk result (λ words. words ≡ told.bad_value setting value.now) }
 {
-    let mut words = String::with_capacity(alloc, WORDS_BYTES_MAX)?;
-    words.push_str("invalid value for parameter \"")?;
-    words.push_str(setting_name(setting))?;
-    words.push_str("\": \"")?;
-    words.push_str(told_value(value))?;
-    words.push_str("\"")?;
-    ShortText::new(alloc, words.as_str())
+    let name = setting_name(setting);
+    let value = told_value(value);
+    let head = "invalid value for parameter \"";
+    words_of(alloc, head, name, "\": \"", value, "\"")
 }
 
 /// A setting cannot be changed.
 pub fn fixed(alloc: Global, setting: Setting) -> Result<ShortText, AllocError>
     ensures { IfOk result (λ words. words ≡ told.fixed setting) }
 {
-    let mut words = String::with_capacity(alloc, WORDS_BYTES_MAX)?;
-    words.push_str("parameter \"")?;
-    words.push_str(setting_name(setting))?;
-    words.push_str("\" cannot be changed")?;
-    ShortText::new(alloc, words.as_str())
+    let name = setting_name(setting);
+    let tail = "\" cannot be changed";
+    words_of(alloc, "", "", "parameter \"", name, tail)
 }
 
 /// The service cannot have this value of a setting.
 pub fn unsupported(alloc: Global, setting: Setting, value: &str) -> Result<ShortText, AllocError>
     ensures { IfOk result (λ words. words ≡ told.unsupported setting value.now) }
 {
+    let name = setting_name(setting);
+    let value = told_value(value);
+    words_of(alloc, "", name, ": \"", value, "\" is not supported")
+}
+
+// These texts, one behind the other. Each may be empty.
+fn words_of(
+    alloc: Global,
+    head: &str,
+    name: &str,
+    between: &str,
+    value: &str,
+    tail: &str,
+) -> Result<ShortText, AllocError>
+    requires { length (head.now ++ name.now ++ between.now ++ value.now ++ tail.now) ≤ SHORT_BYTES_MAX }
+    ensures { IfOk result (λ words. words ≡ head.now ++ name.now ++ between.now ++ value.now ++ tail.now) }
+{
     let mut words = String::with_capacity(alloc, WORDS_BYTES_MAX)?;
-    words.push_str(setting_name(setting))?;
-    words.push_str(": \"")?;
-    words.push_str(told_value(value))?;
-    words.push_str("\" is not supported")?;
+    words.push_str(head)?;
+    words.push_str(name)?;
+    words.push_str(between)?;
+    words.push_str(value)?;
+    words.push_str(tail)?;
     ShortText::new(alloc, words.as_str())
 }
 

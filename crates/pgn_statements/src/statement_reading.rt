@@ -1,18 +1,16 @@
-ghost use Rattle.std.specs.Prelude.{◌+◌, ◌≤◌, [], length, Contains, IfOk};
+ghost use Rattle.std.specs.Prelude.{◌+◌, ◌≤◌, length, Contains, IfOk};
 ghost use Rattle.pgn_base.specs.declared.limits.TheConstants.{LINE_BYTES_MAX};
-ghost use Rattle.pgn_requests.specs.declared.complaint.Cause.TheVariants as cause;
 ghost use Rattle.pgn_requests.specs.Texts.{bare};
-ghost use Rattle.pgn_requests.specs.Phrases as told;
 ghost use Rattle.pgn_requests.specs.Reading.{RequestIs, request_of};
 ghost use Rattle.pgn_statements.specs.Steps.{Gives, Asks};
 
 use crate::asking::asked_of;
-use crate::complaining::refused;
+use crate::complaining::refused_as;
 use crate::lines::{bad_at, read_line};
 use pgn_base::{Command, LINE_BYTES_MAX};
 use pgn_bodies::{Body, body_of, is_plain, plain, without_ends};
 use pgn_command::parse_line;
-use pgn_requests::{Cause, Request, SHORT_BYTES_MAX, ShortText};
+use pgn_requests::{Cause, Request};
 use std::alloc::{AllocError, Global};
 
 /// What a Query's body asks for. Each body asks for exactly one thing, so that this says which in both directions. Want of memory is the one
@@ -23,22 +21,15 @@ pub fn read_request(alloc: Global, body: &[u8]) -> Result<Request, AllocError>
 {
     match body_of(body) {
         Body::Text(text) => read_text(alloc, text),
-        Body::Garbled => unreadable(alloc, Cause::BadMessage, "invalid message format"),
-        Body::Encoded => unreadable(
+        Body::Garbled => refused_as(alloc, "", 0, Cause::BadMessage, "invalid message format"),
+        Body::Encoded => refused_as(
             alloc,
+            "",
+            0,
             Cause::BadEncoding,
             "invalid byte sequence for encoding \"UTF8\"",
         ),
     }
-}
-
-// The refusal of a body that has no text.
-fn unreadable(alloc: Global, cause: Cause, words: &str) -> Result<Request, AllocError>
-    requires { length words.now ≤ SHORT_BYTES_MAX }
-    ensures { Gives result (told.refused [] 0 cause words.now) }
-{
-    let words = ShortText::new(alloc, words)?;
-    refused(alloc, "", 0, cause, words)
 }
 
 // What a text asks for.

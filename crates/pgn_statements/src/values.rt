@@ -20,15 +20,25 @@ pub fn put_values(
 {
     match lexemes {
         [one] => put_value(alloc, text, one),
-        [one, comma, other] if is_sign(comma, b',') => {
-            if !put_value(alloc, text, one)? {
-                return Ok(false);
-            }
-            text.push_str(", ")?;
-            put_value(alloc, text, other)
-        }
+        [one, comma, other] if is_sign(comma, b',') => put_both(alloc, text, one, other),
         _ => Ok(false),
     }
+}
+
+// Puts the values that two tokens are behind a text, with a comma between them.
+fn put_both(
+    alloc: Global,
+    text: &mut String,
+    one: &Lexeme<'_>,
+    other: &Lexeme<'_>,
+) -> Result<bool, AllocError>
+    ensures { IfOk result (λ put. IsPut put (string_bytes text.old) (string_bytes text.new) (told.joined (told.value_text (meant one.now)) (told.value_text (meant other.now)))) }
+{
+    if !put_value(alloc, text, one)? {
+        return Ok(false);
+    }
+    text.push_str(", ")?;
+    put_value(alloc, text, other)
 }
 
 // Puts the value that a token is behind a text.

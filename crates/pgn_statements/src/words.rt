@@ -3,7 +3,7 @@ ghost use Rattle.pgn_language.specs.Grammar.{Punct, fits_slot};
 ghost use Rattle.pgn_requests.specs.Phrases as told;
 ghost use Rattle.pgn_statements.specs.Lexemes.{meant, all_meant, GoesOn};
 
-use crate::choices::is_text;
+use crate::choices::is_same;
 use pgn_command::{Lexeme, is_word};
 
 /// The token is this word, without regard to ASCII case.
@@ -151,7 +151,7 @@ fn is_number(lexeme: &Lexeme<'_>, written: &str) -> bool
     ensures { result ≡ told.is_number written.now (meant lexeme.now) }
 {
     match lexeme {
-        Lexeme::Number(digits) => is_text(digits.as_bytes(), written),
+        Lexeme::Number(digits) => is_same(true, written, digits.as_bytes()),
         _ => false,
     }
 }
