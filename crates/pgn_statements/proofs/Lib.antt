@@ -4,3 +4,4 @@ pub mod StepLaws
 pub mod AskLaws
 pub mod CallLaws
 pub mod ChoiceLaws
+pub mod SettingLaws
