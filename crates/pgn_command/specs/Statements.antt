@@ -53,6 +53,14 @@ meant (statement.PgNotify channel payload) = command.PgNotify (noted (text_bytes
 meant statement.ListeningChannels = command.ListeningChannels
 meant statement.QueueUsage = command.QueueUsage
 
+-- the command of a statement that has a name and nothing else, with this name
+abbrev pub with_name : Statement → List ℕ → Command
+with_name (statement.Savepoint one) name = command.Savepoint name
+with_name (statement.RollbackTo one) name = command.RollbackTo name
+with_name (statement.Release one) name = command.Release name
+with_name (statement.Listen one) name = command.Listen name
+with_name one name = command.Unlisten name
+
 -- the code's answer is this one
 abbrev pub Gives : Result Statement Stop → Result Command ℕ → Type 0
 Gives answer told = MatchResult answer (λ one. told ≡ Ok (meant one)) (λ stop. told ≡ Err stop.at)

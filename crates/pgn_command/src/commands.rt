@@ -3,11 +3,12 @@ ghost use Rattle.pgn_base.specs.declared.command.Command.TheVariants as command;
 ghost use Rattle.pgn_language.specs.Grammar.{limited, past_limit};
 ghost use Rattle.pgn_language.specs.laws.Commands.{IsValid};
 ghost use Rattle.pgn_command.specs.Reading.{noted};
-ghost use Rattle.pgn_command.specs.Statements.{ident_name, text_bytes, meant};
+ghost use Rattle.pgn_command.specs.Statements.{ident_name, text_bytes, meant, with_name};
+ghost use Rattle.pgn_base.specs.Texts.{IsName};
 
 use crate::statement::{Ident, Statement, Text};
 use crate::texts::{channel_of, name_of, payload_of, text_len};
-use pgn_base::{Command, NAME_BYTES_MAX, Note, PAYLOAD_BYTES_MAX, Which};
+use pgn_base::{Command, NAME_BYTES_MAX, Name, Note, PAYLOAD_BYTES_MAX, Which};
 use std::alloc::{AllocError, Global};
 
 /// The command that a statement is, or which limit it goes past.
@@ -21,31 +22,38 @@ pub fn command_of(alloc: Global, statement: Statement<'_>) -> Result<Command, Al
         Statement::Start => Ok(Command::Start),
         Statement::Commit => Ok(Command::Commit),
         Statement::Rollback => Ok(Command::Rollback),
-        Statement::Savepoint(name) => {
-            let name = name_of(alloc, name)?;
-            Ok(Command::Savepoint(name))
-        }
-        Statement::RollbackTo(name) => {
-            let name = name_of(alloc, name)?;
-            Ok(Command::RollbackTo(name))
-        }
-        Statement::Release(name) => {
-            let name = name_of(alloc, name)?;
-            Ok(Command::Release(name))
-        }
-        Statement::Listen(name) => {
-            let name = name_of(alloc, name)?;
-            Ok(Command::Listen(name))
-        }
-        Statement::Unlisten(name) => {
-            let name = name_of(alloc, name)?;
-            Ok(Command::Unlisten(name))
-        }
+        Statement::Savepoint(name)
+        | Statement::RollbackTo(name)
+        | Statement::Release(name)
+        | Statement::Listen(name)
+        | Statement::Unlisten(name) => named(alloc, statement, name),
         Statement::UnlistenAll => Ok(Command::UnlistenAll),
         Statement::Notify(channel, payload) => notify(alloc, channel, payload),
         Statement::PgNotify(channel, payload) => pg_notify(alloc, channel, payload),
         Statement::ListeningChannels => Ok(Command::ListeningChannels),
         Statement::QueueUsage => Ok(Command::QueueUsage),
+    }
+}
+
+// The command of a statement that has this name and nothing else.
+fn named(alloc: Global, statement: Statement<'_>, name: Ident<'_>) -> Result<Command, AllocError>
+    requires { IsName (ident_name name) }
+    ensures { IfOk result (λ command. command ≡ with_name statement.entry (ident_name name.entry)) }
+{
+    let name = name_of(alloc, name)?;
+    Ok(with_name(statement, name))
+}
+
+// The command of this kind with another name.
+fn with_name(statement: Statement<'_>, name: Name) -> Command
+    ensures { result ≡ with_name statement.entry name }
+{
+    match statement {
+        Statement::Savepoint(_) => Command::Savepoint(name),
+        Statement::RollbackTo(_) => Command::RollbackTo(name),
+        Statement::Release(_) => Command::Release(name),
+        Statement::Listen(_) => Command::Listen(name),
+        _ => Command::Unlisten(name),
     }
 }
 
