@@ -13,6 +13,7 @@ use Rattle.pgn_base.specs.declared.answers.Refusal.{Refusal}
 use Rattle.pgn_base.specs.declared.answers.Refusal.TheVariants as refused
 use Rattle.pgn_answers.specs.Refusals.{bounds_message, needs_text, refusal_text, tag_text, warning_text}
 use Rattle.pgn_lines.specs.Shown.{IsRefusal, IsTag}
+use Rattle.pgn_lines.proofs.FieldLaws.{differ}
 use Rattle.pgn_lines.proofs.PartLaws.{last_part}
 
 -- what the first two bytes of a tag come to
@@ -45,25 +46,25 @@ tag_told (tag.Select rows) = refl
 
 same_tag : (a b : Tag) → IsTag a → IsTag b → tag_number a ≡ tag_number b → tag_text a ≡ tag_text b → a ≡ b
 same_tag tag.Begin tag.Begin h k t e = refl
-same_tag tag.Begin b h k t e = absurd (omega (arith, t))
+same_tag tag.Begin b h k t e = absurd (differ 135 _ t refl)
 same_tag tag.Start tag.Start h k t e = refl
-same_tag tag.Start b h k t e = absurd (omega (arith, t))
+same_tag tag.Start b h k t e = absurd (differ 167 _ t refl)
 same_tag tag.Commit tag.Commit h k t e = refl
-same_tag tag.Commit b h k t e = absurd (omega (arith, t))
+same_tag tag.Commit b h k t e = absurd (differ 146 _ t refl)
 same_tag tag.Rollback tag.Rollback h k t e = refl
-same_tag tag.Rollback b h k t e = absurd (omega (arith, t))
+same_tag tag.Rollback b h k t e = absurd (differ 161 _ t refl)
 same_tag tag.Savepoint tag.Savepoint h k t e = refl
-same_tag tag.Savepoint b h k t e = absurd (omega (arith, t))
+same_tag tag.Savepoint b h k t e = absurd (differ 148 _ t refl)
 same_tag tag.Release tag.Release h k t e = refl
-same_tag tag.Release b h k t e = absurd (omega (arith, t))
+same_tag tag.Release b h k t e = absurd (differ 151 _ t refl)
 same_tag tag.Listen tag.Listen h k t e = refl
-same_tag tag.Listen b h k t e = absurd (omega (arith, t))
+same_tag tag.Listen b h k t e = absurd (differ 149 _ t refl)
 same_tag tag.Unlisten tag.Unlisten h k t e = refl
-same_tag tag.Unlisten b h k t e = absurd (omega (arith, t))
+same_tag tag.Unlisten b h k t e = absurd (differ 163 _ t refl)
 same_tag tag.Notify tag.Notify h k t e = refl
-same_tag tag.Notify b h k t e = absurd (omega (arith, t))
+same_tag tag.Notify b h k t e = absurd (differ 157 _ t refl)
 same_tag (tag.Select m) (tag.Select n) h k t e = ap (λ (rows : ℕ). let done : Tag = tag.Select rows in done) (last_part (codes "SELECT ") m n (omega (arith, h)) (omega (arith, k)) e)
-same_tag (tag.Select m) b h k t e = absurd (omega (arith, t))
+same_tag (tag.Select m) b h k t e = absurd (differ 152 _ t refl)
 
 -- a tag
 pub tag_part : (a b : Tag) → IsTag a → IsTag b → tag_text a ≡ tag_text b → a ≡ b
@@ -88,11 +89,11 @@ bounds_told PayloadTooLong = refl
 
 same_bounds : (a b : Which) → bounds_size a ≡ bounds_size b → a ≡ b
 same_bounds ChannelEmpty ChannelEmpty t = refl
-same_bounds ChannelEmpty b t = absurd (omega (arith, t))
+same_bounds ChannelEmpty b t = absurd (differ 28 _ t refl)
 same_bounds ChannelTooLong ChannelTooLong t = refl
-same_bounds ChannelTooLong b t = absurd (omega (arith, t))
+same_bounds ChannelTooLong b t = absurd (differ 21 _ t refl)
 same_bounds PayloadTooLong PayloadTooLong t = refl
-same_bounds PayloadTooLong b t = absurd (omega (arith, t))
+same_bounds PayloadTooLong b t = absurd (differ 23 _ t refl)
 
 abbrev needs_size : Needs → ℕ
 needs_size needs.Savepoint = 9
@@ -106,11 +107,11 @@ needs_told needs.Release = refl
 
 same_needs : (a b : Needs) → needs_size a ≡ needs_size b → a ≡ b
 same_needs needs.Savepoint needs.Savepoint t = refl
-same_needs needs.Savepoint b t = absurd (omega (arith, t))
+same_needs needs.Savepoint b t = absurd (differ 9 _ t refl)
 same_needs needs.RollbackTo needs.RollbackTo t = refl
-same_needs needs.RollbackTo b t = absurd (omega (arith, t))
+same_needs needs.RollbackTo b t = absurd (differ 21 _ t refl)
 same_needs needs.Release needs.Release t = refl
-same_needs needs.Release b t = absurd (omega (arith, t))
+same_needs needs.Release b t = absurd (differ 17 _ t refl)
 
 -- what the second and the last byte of a refusal's code come to
 abbrev refusal_sign : List ℕ → ℕ
@@ -134,25 +135,25 @@ refusal_told refused.QueueFull = refl
 
 same_refusal : (a b : Refusal) → IsRefusal a → IsRefusal b → refusal_number a ≡ refusal_number b → refusal_text a ≡ refusal_text b → a ≡ b
 same_refusal (refused.Syntax m) (refused.Syntax n) h k t e = ap (λ (at : ℕ). let r : Refusal = refused.Syntax at in r) (last_part (codes "42601: syntax error at byte ") m n (omega (arith, h)) (omega (arith, k)) e)
-same_refusal (refused.Syntax m) b h k t e = absurd (omega (arith, t))
+same_refusal (refused.Syntax m) b h k t e = absurd (differ 99 _ t refl)
 same_refusal (refused.Bounds m) (refused.Bounds n) h k t e =
     let same : bounds_message m ≡ bounds_message n = append_cancel_left (codes "22023: ") (bounds_message m) (bounds_message n) e in
     ap (λ (which : Which). let r : Refusal = refused.Bounds which in r) (same_bounds m n (sym (bounds_told m) ∙ ap length same ∙ bounds_told n))
-same_refusal (refused.Bounds m) b h k t e = absurd (omega (arith, t))
+same_refusal (refused.Bounds m) b h k t e = absurd (differ 101 _ t refl)
 same_refusal (refused.NeedsBlock m) (refused.NeedsBlock n) h k t e =
     let end : List ℕ = codes " can only be used in transaction blocks" in
     let same : needs_text m ≡ needs_text n = append_cancel_right (needs_text m) (needs_text n) end (append_cancel_left (codes "25P01: ") (needs_text m ++ end) (needs_text n ++ end) e) in
     ap (λ (what : Needs). let r : Refusal = refused.NeedsBlock what in r) (same_needs m n (sym (needs_told m) ∙ ap length same ∙ needs_told n))
-same_refusal (refused.NeedsBlock m) b h k t e = absurd (omega (arith, t))
+same_refusal (refused.NeedsBlock m) b h k t e = absurd (differ 102 _ t refl)
 same_refusal (refused.NoSavepoint m) (refused.NoSavepoint n) h k t e =
     let end : List ℕ = codes "\" does not exist" in
     let same : m ≡ n = append_cancel_right m n end (append_cancel_left (codes "3B001: savepoint \"") (m ++ end) (n ++ end) e) in
     ap (λ (name : List ℕ). let r : Refusal = refused.NoSavepoint name in r) same
-same_refusal (refused.NoSavepoint m) b h k t e = absurd (omega (arith, t))
+same_refusal (refused.NoSavepoint m) b h k t e = absurd (differ 115 _ t refl)
 same_refusal refused.Aborted refused.Aborted h k t e = refl
-same_refusal refused.Aborted b h k t e = absurd (omega (arith, t))
+same_refusal refused.Aborted b h k t e = absurd (differ 103 _ t refl)
 same_refusal refused.QueueFull refused.QueueFull h k t e = refl
-same_refusal refused.QueueFull b h k t e = absurd (omega (arith, t))
+same_refusal refused.QueueFull b h k t e = absurd (differ 100 _ t refl)
 
 -- a refusal
 pub refusal_part : (a b : Refusal) → IsRefusal a → IsRefusal b → codes "ERROR: " ++ refusal_text a ≡ codes "ERROR: " ++ refusal_text b → a ≡ b

@@ -12,7 +12,8 @@ use Rattle.pgn_lines.specs.declared.shown.Shown.TheVariants.{Committed, Aborted,
 use Rattle.pgn_lines.proofs.PartLaws.{are_digits, note_spelled}
 use Rattle.pgn_lines.proofs.FieldLaws.{AreDigits}
 use Rattle.pgn_lines.proofs.QuotedLaws.{quoted_parts}
-use Rattle.pgn_lines.proofs.OnceLaws.{entries_are_apart, kind, long_xid, sign, told}
+use Rattle.pgn_lines.proofs.OnceLaws.{entries_are_apart, kind, sign, told}
+use Rattle.pgn_lines.proofs.LineLaws.{long_xid}
 
 -- a line of this start shows a commit, or nothing
 publish_alone : (rest : List ℕ) → ((xid : ℕ) → Unshown (codes "+publish " ++ rest) (Publish xid)) → (shown : Shown) → Unshown (codes "+publish " ++ rest) shown

@@ -1,15 +1,16 @@
 -- A line that shows nothing of each kind shows nothing of their family, and one that shows nothing of each family shows nothing.
-use Rattle.std.proofs.Common.{◌≡◌, ℕ, List, Option, refl}
+use Rattle.std.proofs.Common.{◌≡◌, ℕ, List, Option, codes, sym, ◌∙◌, refl}
 use Rattle.pgn_base.specs.declared.answers.Tag.{Tag}
 use Rattle.pgn_base.specs.declared.answers.Warning.{Warning}
 use Rattle.pgn_base.specs.declared.answers.Refusal.{Refusal}
 use Rattle.pgn_base.specs.declared.answers.Refusal.TheVariants as refused
 use Rattle.pgn_base.specs.declared.note.Note.{Note}
 use Rattle.pgn_base.specs.declared.note.Delivery.{Delivery}
-use Rattle.pgn_base.specs.declared.queue_answers.Full.{Full}
-use Rattle.pgn_lines.specs.Shown.{Family, Entries, Events, Answers, Rows, family_of, ShowsNo, Unshown, NamesNoSavepoint}
+use Rattle.pgn_lines.specs.Fields.{NotFull, NotNumbered, NotTwo}
+use Rattle.pgn_lines.specs.Shown.{Family, Entries, Events, Answers, Rows, family_of, IsLong, IsXid, ShowsNo, Unshown, NamesNoSavepoint}
 use Rattle.pgn_lines.specs.declared.shown.Shown.{Shown}
 use Rattle.pgn_lines.specs.declared.shown.Shown.TheVariants.{Journal, Committed, Aborted, Sent, Enlist, Publish, QueueFull, Leave, Warn, Tagged, Refuse, Channel, Measured, Pages, Raise, Found, TimedOut, Read, Received, End}
+use Rattle.pgn_lines.proofs.LineLaws.{full_spelled}
 
 by_family : (line : List ℕ) → ShowsNo Rows line → ShowsNo Events line → ShowsNo Entries line → ShowsNo Answers line → (shown : Shown) (family : Family) → family_of shown ≡ family → Unshown line shown
 by_family line a b c d shown Rows is = a shown is
@@ -30,14 +31,13 @@ no_entry line a b c (Journal entries) is = c entries
 no_entry line a b c shown is = absurd (let no : ⊥ = cc in no)
 
 -- nothing that a session did
-pub no_event : (line : List ℕ) → ((xid : ℕ) → Unshown line (Publish xid)) → ((from to : ℕ) → Unshown line (Read from to)) → ((base point : ℕ) → Unshown line (Enlist base point))
-    → ((full : Full) → Unshown line (QueueFull full)) → Unshown line Leave → ((at floor : ℕ) (holder : Option ℕ) → Unshown line (Measured at floor holder))
-    → ((value : ℕ) → Unshown line (Raise value)) → ((value : ℕ) → Unshown line (Found value)) → ((looks : ℕ) → Unshown line (TimedOut looks)) → ShowsNo Events line
+pub no_event : (line : List ℕ) → NotNumbered IsXid (codes "+publish ") line → NotTwo (codes "+read ") line → NotTwo (codes "+enlist ") line → NotFull line → (line ≡ codes "+leave" → ⊥)
+    → ((at floor : ℕ) (holder : Option ℕ) → Unshown line (Measured at floor holder)) → NotNumbered IsXid (codes "+signal ") line → NotNumbered IsXid (codes "+await ") line → NotNumbered IsLong (codes "+timeout ") line → ShowsNo Events line
 no_event line a b c d e f g h i (Publish xid) is = a xid
-no_event line a b c d e f g h i (Read from to) is = b from to
-no_event line a b c d e f g h i (Enlist base point) is = c base point
-no_event line a b c d e f g h i (QueueFull full) is = d full
-no_event line a b c d e f g h i Leave is = e
+no_event line a b c d e f g h i (Read from to) is = λ held t. b from to held.0 held.1 t
+no_event line a b c d e f g h i (Enlist base point) is = λ held t. c base point held.0 held.1 t
+no_event line a b c d e f g h i (QueueFull full) is = λ held t. d full.xid full.queued full.head_page full.floor_mark full.floor_page full.holder held.0 held.1 held.2 held.3 held.4 held.5 (sym (full_spelled full) ∙ t)
+no_event line a b c d e f g h i Leave is = λ held t. e (sym t)
 no_event line a b c d e f g h i (Measured at floor holder) is = f at floor holder
 no_event line a b c d e f g h i (Raise value) is = g value
 no_event line a b c d e f g h i (Found value) is = h value

@@ -1,5 +1,6 @@
 -- A number ends where a blank follows it.
-use Rattle.std.proofs.Common.{◌≡◌, ◌≢◌, ℕ, zero, suc, ◌^◌, ◌<◌, List, [], ◌∷◌, Option, None, Some, MatchOption, length, get_or, Bor, decimal, sym, ◌∙◌, arith}
+use Rattle.std.proofs.Common.{◌≡◌, ◌≢◌, ℕ, zero, suc, ◌^◌, ◌<◌, ◌==◌, false, List, [], ◌∷◌, Option, None, Some, MatchOption, Result, Ok, length, get_or, Bor, decimal, sym, ◌∙◌, arith, eq-eqb}
+use Rattle.std.proofs.lemmas.Bool.{false≢true}
 use Rattle.std.specs.Int.{IsInRange}
 use Rattle.std.proofs.lemmas.Fmt.{digits_decimal, decimal_injective}
 use Rattle.std.proofs.lemmas.Str.Parse.{IsDigitsTest, numerals_by_value}
@@ -36,3 +37,11 @@ parted_at mark text (Some x) h low = record {
 -- two numbers with one text are the same
 pub same_number : (n m : ℕ) (text : List ℕ) → n < 2 ^ 64 → m < 2 ^ 64 → decimal n ≡ text → decimal m ≡ text → n ≡ m
 same_number n m text hn hm e f = decimal_injective n m hn hm (e ∙ sym f)
+
+-- two numbers that a test tells apart are not the same
+pub differ : (n m : ℕ) → n ≡ m → (n == m) ≡ false → ⊥
+differ n m e f = absurd (false≢true (sym f ∙ eq-eqb n m e))
+
+-- what was read is one number
+pub same_ok : {E : Type 0} (read : Result ℕ E) (n m : ℕ) → read ≡ Ok n → read ≡ Ok m → n ≡ m
+same_ok read n m e f = cc

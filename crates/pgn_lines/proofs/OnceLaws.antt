@@ -10,11 +10,12 @@ use Rattle.pgn_base.specs.declared.note.Delivery.{Delivery}
 use Rattle.pgn_base.specs.declared.queue_answers.Full.{Full}
 use Rattle.pgn_language.specs.Quotes.{quoted}
 use Rattle.pgn_model.specs.Text.{delivery_line, end_line, full_line, holder_text, note_text}
-use Rattle.pgn_lines.specs.Shown.{IsFull, IsHeld, IsLong, IsSession, IsShort, IsXid, ShownOnce, shown_text}
+use Rattle.pgn_lines.specs.Shown.{IsFull, IsHeld, IsLong, IsSession, ShownOnce, shown_text}
 use Rattle.pgn_lines.specs.declared.shown.Shown.{Shown}
 use Rattle.pgn_lines.specs.declared.shown.Shown.TheVariants.{Journal, Committed, Aborted, Sent, Enlist, Publish, QueueFull, Leave, Warn, Tagged, Refuse, Channel, Measured, Pages, Raise, Found, TimedOut, Read, Received, End}
 use Rattle.pgn_lines.proofs.PartLaws.{number_part, blank_part, last_part, two_parts, holder_part, note_part, name_part, no_quote, note_is_no_name, in_four, in_five, in_six}
-use Rattle.pgn_lines.proofs.LineLaws.{full_spelled}
+use Rattle.pgn_lines.proofs.LineLaws.{full_spelled, long_session, long_short, long_xid}
+use Rattle.pgn_lines.proofs.FieldLaws.{differ}
 use Rattle.pgn_lines.proofs.AnswerParts.{tag_part, warning_part, refusal_part}
 
 -- a number for each kind that the first two bytes tell
@@ -98,16 +99,6 @@ received_parts x p x' p' rest more a b c d e =
     let xids = blank_part (codes "  ") x x' (decimal p ++ 32 ∷ rest) (decimal p' ++ 32 ∷ more) a c spelled in
     let pids = blank_part [] p p' rest more b d xids.1 in
     (xids.0, pids.0, pids.1)
-
--- a transaction's number is a long one
-pub long_xid : (n : ℕ) → IsXid n → IsLong n
-long_xid n h = omega (arith, h)
-
-long_session : (n : ℕ) → IsSession n → IsLong n
-long_session n h = omega (arith, h)
-
-long_short : (n : ℕ) → IsShort n → IsLong n
-long_short n h = omega (arith, h)
 
 long_holder : (holder : Option ℕ) → IfSome holder IsSession → IfSome holder IsLong
 long_holder None h = tt
@@ -208,7 +199,7 @@ entries_are_apart x s n x' s' q n' h k e =
 
 once : (a b : Shown) → IsHeld a → IsHeld b → kind a ≡ kind b → shown_text a ≡ shown_text b → a ≡ b
 once (Journal entries) (Journal entries') h k t e = ap (λ (n : ℕ). let s : Shown = Journal n in s) (last_part (codes "journal ") entries entries' (omega (arith, h)) (omega (arith, k)) e)
-once (Journal entries) b h k t e = absurd (omega (arith, t))
+once (Journal entries) b h k t e = absurd (differ 106 _ t refl)
 once (Committed xid session notes) (Committed xid' session' notes') h k t e =
     let parts = entry_parts xid session xid' session' (codes "commit " ++ decimal notes) (codes "commit " ++ decimal notes') (long_xid xid h.0) (long_session session h.1) (long_xid xid' k.0) (long_session session' k.1) e in
     let one : xid ≡ xid' = parts.0 in
@@ -216,7 +207,7 @@ once (Committed xid session notes) (Committed xid' session' notes') h k t e =
     let three : notes ≡ notes' = last_part (codes "commit ") notes notes' (long_short notes h.2) (long_short notes' k.2) parts.2 in
     cc
 once (Committed xid session notes) (Aborted xid' session' queued' notes') h k t e = absurd (entries_are_apart xid session notes xid' session' queued' notes' h k e)
-once (Committed xid session notes) b h k t e = absurd (omega (arith, t))
+once (Committed xid session notes) b h k t e = absurd (differ 120 _ t refl)
 once (Aborted xid session queued notes) (Aborted xid' session' queued' notes') h k t e =
     let parts = entry_parts xid session xid' session' (codes "abort " ++ decimal queued ++ codes " of " ++ decimal notes) (codes "abort " ++ decimal queued' ++ codes " of " ++ decimal notes') (long_xid xid h.0) (long_session session h.1) (long_xid xid' k.0) (long_session session' k.1) e in
     let counts = two_parts (codes "abort ") (codes "of ") queued queued' notes notes' (long_short queued h.2) (long_short queued' k.2) (long_short notes h.3) (long_short notes' k.3) parts.2 in
@@ -226,61 +217,61 @@ once (Aborted xid session queued notes) (Aborted xid' session' queued' notes') h
     let four : notes ≡ notes' = counts.1 in
     cc
 once (Aborted xid session queued notes) (Committed xid' session' notes') h k t e = absurd (entries_are_apart xid' session' notes' xid session queued notes k h (sym e))
-once (Aborted xid session queued notes) b h k t e = absurd (omega (arith, t))
+once (Aborted xid session queued notes) b h k t e = absurd (differ 120 _ t refl)
 once (Sent note) (Sent note') h k t e = ap (λ (n : Note). let s : Shown = Sent n in s) (note_part note note' (append_cancel_left (codes "  ") (note_text note) (note_text note') e))
 once (Sent note) (Channel name') h k t e = absurd (note_is_no_name note name' (append_cancel_left (codes "  ") (note_text note) (quoted 34 name') e))
 once (Sent note) (Pages occupied' limit') h k t e = absurd (no_pages _ occupied' limit' k e)
 once (Sent note) (Received delivery') h k t e = absurd (no_delivery _ delivery' k e)
-once (Sent note) b h k t e = absurd (omega (arith, t))
+once (Sent note) b h k t e = absurd (differ 32 _ t refl)
 once (Enlist base point) (Enlist base' point') h k t e =
     let parts = two_parts (codes "+enlist ") [] base base' point point' (long_xid base h.0) (long_xid base' k.0) (long_xid point h.1) (long_xid point' k.1) e in
     let one : base ≡ base' = parts.0 in
     let two : point ≡ point' = parts.1 in
     cc
-once (Enlist base point) b h k t e = absurd (omega (arith, t))
+once (Enlist base point) b h k t e = absurd (differ 1101 _ t refl)
 once (Publish xid) (Publish xid') h k t e = ap (λ (n : ℕ). let s : Shown = Publish n in s) (last_part (codes "+publish ") xid xid' (long_xid xid h) (long_xid xid' k) e)
-once (Publish xid) b h k t e = absurd (omega (arith, t))
+once (Publish xid) b h k t e = absurd (differ 1112 _ t refl)
 once (QueueFull full) (QueueFull full') h k t e = ap (λ (f : Full). let s : Shown = QueueFull f in s) (full_once full full' h k e)
-once (QueueFull full) b h k t e = absurd (omega (arith, t))
+once (QueueFull full) b h k t e = absurd (differ 1102 _ t refl)
 once Leave Leave h k t e = refl
-once Leave b h k t e = absurd (omega (arith, t))
+once Leave b h k t e = absurd (differ 1108 _ t refl)
 once (Warn warning) (Warn warning') h k t e = ap (λ (w : Warning). let s : Shown = Warn w in s) (warning_part warning warning' e)
-once (Warn warning) b h k t e = absurd (omega (arith, t))
+once (Warn warning) b h k t e = absurd (differ 87 _ t refl)
 once (Tagged done) (Tagged done') h k t e = ap (λ (d : Tag). let s : Shown = Tagged d in s) (tag_part done done' h k e)
-once (Tagged done) b h k t e = absurd (omega (arith, t))
+once (Tagged done) b h k t e = absurd (differ 0 _ t refl)
 once (Refuse refusal) (Refuse refusal') h k t e = ap (λ (r : Refusal). let s : Shown = Refuse r in s) (refusal_part refusal refusal' h k e)
-once (Refuse refusal) b h k t e = absurd (omega (arith, t))
+once (Refuse refusal) b h k t e = absurd (differ 69 _ t refl)
 once (Channel name) (Channel name') h k t e = ap (λ (n : List ℕ). let s : Shown = Channel n in s) (name_part name name' (append_cancel_left (codes "  ") (quoted 34 name) (quoted 34 name') e))
 once (Channel name) (Sent note') h k t e = absurd (note_is_no_name note' name (sym (append_cancel_left (codes "  ") (quoted 34 name) (note_text note') e)))
 once (Channel name) (Pages occupied' limit') h k t e = absurd (no_pages _ occupied' limit' k e)
 once (Channel name) (Received delivery') h k t e = absurd (no_delivery _ delivery' k e)
-once (Channel name) b h k t e = absurd (omega (arith, t))
+once (Channel name) b h k t e = absurd (differ 32 _ t refl)
 once (Measured at floor holder) (Measured at' floor' holder') h k t e = usage_once at at' floor floor' holder holder' h k e
-once (Measured at floor holder) b h k t e = absurd (omega (arith, t))
+once (Measured at floor holder) b h k t e = absurd (differ 1117 _ t refl)
 once (Pages occupied limit) (Pages occupied' limit') h k t e = pages_once occupied occupied' limit limit' h k e
 once (Pages occupied limit) (Sent note') h k t e = absurd (no_pages _ occupied limit h (sym e))
 once (Pages occupied limit) (Channel name') h k t e = absurd (no_pages _ occupied limit h (sym e))
 once (Pages occupied limit) (Received delivery') h k t e = absurd (pages_are_apart occupied limit delivery' h k e)
-once (Pages occupied limit) b h k t e = absurd (omega (arith, t))
+once (Pages occupied limit) b h k t e = absurd (differ 32 _ t refl)
 once (Raise value) (Raise value') h k t e = ap (λ (n : ℕ). let s : Shown = Raise n in s) (last_part (codes "+signal ") value value' (long_xid value h) (long_xid value' k) e)
-once (Raise value) b h k t e = absurd (omega (arith, t))
+once (Raise value) b h k t e = absurd (differ 1115 _ t refl)
 once (Found value) (Found value') h k t e = ap (λ (n : ℕ). let s : Shown = Found n in s) (last_part (codes "+await ") value value' (long_xid value h) (long_xid value' k) e)
-once (Found value) b h k t e = absurd (omega (arith, t))
+once (Found value) b h k t e = absurd (differ 1097 _ t refl)
 once (TimedOut looks) (TimedOut looks') h k t e = ap (λ (n : ℕ). let s : Shown = TimedOut n in s) (last_part (codes "+timeout ") looks looks' h k e)
-once (TimedOut looks) b h k t e = absurd (omega (arith, t))
+once (TimedOut looks) b h k t e = absurd (differ 1116 _ t refl)
 once (Read from to) (Read from' to') h k t e =
     let parts = two_parts (codes "+read ") [] from from' to to' (long_xid from h.0) (long_xid from' k.0) (long_xid to h.1) (long_xid to' k.1) e in
     let one : from ≡ from' = parts.0 in
     let two : to ≡ to' = parts.1 in
     cc
-once (Read from to) b h k t e = absurd (omega (arith, t))
+once (Read from to) b h k t e = absurd (differ 1114 _ t refl)
 once (Received delivery) (Received delivery') h k t e = ap (λ (d : Delivery). let s : Shown = Received d in s) (received_once delivery delivery' h k e)
 once (Received delivery) (Sent note') h k t e = absurd (no_delivery _ delivery h (sym e))
 once (Received delivery) (Channel name') h k t e = absurd (no_delivery _ delivery h (sym e))
 once (Received delivery) (Pages occupied' limit') h k t e = absurd (pages_are_apart occupied' limit' delivery k h (sym e))
-once (Received delivery) b h k t e = absurd (omega (arith, t))
+once (Received delivery) b h k t e = absurd (differ 32 _ t refl)
 once (End mark) (End mark') h k t e = ap (λ (m : Option ℕ). let s : Shown = End m in s) (end_once mark mark' h k e)
-once (End mark) b h k t e = absurd (omega (arith, t))
+once (End mark) b h k t e = absurd (differ 101 _ t refl)
 
 -- a line shows one thing at most
 pub shown_once : ShownOnce

@@ -8,7 +8,7 @@ use Rattle.pgn_language.specs.Quotes.{doubled_byte, quoted}
 use Rattle.pgn_model.specs.Text.{holder_text, note_text}
 use Rattle.pgn_lines.specs.Shown.{IsLong}
 use Rattle.pgn_lines.proofs.FieldLaws.{AreDigits, are-digits}
-use Rattle.pgn_lines.proofs.QuotedLaws.{quoted_parts}
+use Rattle.pgn_lines.proofs.QuotedLaws.{pair_spelled, quoted_parts}
 
 -- a long number is spelled in digits
 pub are_digits : (n : ℕ) → IsLong n → AreDigits (decimal n)
@@ -84,12 +84,9 @@ holder_part None (Some n) h k e = absurd (no_letter n k e)
 holder_part (Some n) None h k e = absurd (no_letter n h (sym e))
 holder_part (Some m) (Some n) h k e = ap (λ (session : ℕ). Some session) (decimal_injective m n h k e)
 
-two_texts : (channel payload : List ℕ) → 34 ∷ (channel ++ 34 ∷ []) ++ 44 ∷ 32 ∷ [] ++ 39 ∷ (payload ++ 39 ∷ []) ≡ 34 ∷ (channel ++ 34 ∷ 44 ∷ 32 ∷ 39 ∷ (payload ++ 39 ∷ []))
-two_texts channel payload = simp append_assoc
-
 -- a notification in one spelling: a comma follows its channel
 pub note_spelled : (note : Note) → note_text note ≡ 34 ∷ (flat_map (doubled_byte 34) note.channel ++ 34 ∷ 44 ∷ 32 ∷ 39 ∷ (flat_map (doubled_byte 39) note.payload ++ 39 ∷ []))
-note_spelled note = two_texts (flat_map (doubled_byte 34) note.channel) (flat_map (doubled_byte 39) note.payload)
+note_spelled note = pair_spelled note.channel note.payload
 
 same_note : (a b : Note) → a.channel ≡ b.channel → a.payload ≡ b.payload → a ≡ b
 same_note a b e1 e2 =

@@ -1,13 +1,17 @@
 -- A text between quotes ends at the first quote that is not followed by another.
-use Rattle.std.proofs.Common.{◌≡◌, ◌≢◌, ℕ, ◌+◌, ◌*◌, ◌<◌, ◌≤◌, ◌==◌, inl, inr, List, [], ◌∷◌, ◌++◌, Option, None, Some, length, drop, flat_map, slice_get, sym, ap, ◌∙◌, refl, subst, arith, append_assoc, length-append}
-use Rattle.std.proofs.lemmas.List.{drop_at}
-use Rattle.std.proofs.lemmas.Bool.{cases_Bool}
+use Rattle.std.proofs.Common.{◌≡◌, ◌≢◌, ℕ, ◌+◌, ◌*◌, ◌<◌, ◌≤◌, ◌==◌, Bool, true, false, inl, inr, List, [], ◌∷◌, ◌++◌, Option, None, Some, MatchOption, Result, Ok, Err, IfOk, codes, length, drop, flat_map, slice_get, sym, ap, ◌∙◌, refl, subst, arith, append_assoc, length-append, eqb-true}
+use Rattle.std.proofs.lemmas.List.{append_cancel_left, drop_at, nil_from_length}
+use Rattle.std.proofs.lemmas.Bool.{cases_Bool, false≢true}
 use Rattle.pgn_language.specs.Quotes.{doubled_byte, quoted}
 use Rattle.pgn_language.specs.Tokens.{Inside, closed}
 use Rattle.pgn_language.specs.laws.Tokens.{IsClosed}
 use Rattle.pgn_language.proofs.TokenLaws.{quotes-tell}
+use Rattle.pgn_base.specs.declared.note.Note.{Note}
+use Rattle.pgn_base.specs.Notes.{IsNote}
+use Rattle.pgn_base.specs.Texts.{IsName, IsPayload}
+use Rattle.pgn_model.specs.Text.{note_text}
 use Rattle.pgn_quotes.specs.Texts.{single, IsInside}
-use Rattle.pgn_lines.specs.Fields.{EndsQuote, NotEnclosed, IsEnclosed, pair_text}
+use Rattle.pgn_lines.specs.Fields.{EndsQuote, NotEnclosed, IsEnclosed, IsAlone, IsPair, pair_text}
 
 ends_get : (quote : ℕ) (rest : List ℕ) → EndsQuote quote rest → slice_get rest 0 ≢ Some quote
 ends_get quote [] h e = absurd (cc)
@@ -91,3 +95,80 @@ name_short text name a e long =
     let inner : List ℕ = flat_map (doubled_byte 34) name in
     let whole : length (34 ∷ (inner ++ 34 ∷ [])) ≡ length text = ap length e in
     omega (arith, whole, doubled_short 34 name, length-append inner (34 ∷ []))
+
+two_texts : (channel payload : List ℕ) → 34 ∷ (channel ++ 34 ∷ []) ++ 44 ∷ 32 ∷ [] ++ 39 ∷ (payload ++ 39 ∷ []) ≡ 34 ∷ (channel ++ 34 ∷ 44 ∷ 32 ∷ 39 ∷ (payload ++ 39 ∷ []))
+two_texts channel payload = simp append_assoc
+
+-- a payload between its quotes, behind the first
+abbrev pub payload_text : List ℕ → List ℕ
+payload_text payload = flat_map (doubled_byte 39) payload ++ 39 ∷ []
+
+-- a channel and a payload in one spelling: a comma follows the channel
+pub pair_spelled : (channel payload : List ℕ) → pair_text channel payload ≡ 34 ∷ (flat_map (doubled_byte 34) channel ++ 34 ∷ 44 ∷ 32 ∷ 39 ∷ payload_text payload)
+pair_spelled channel payload = two_texts (flat_map (doubled_byte 34) channel) (flat_map (doubled_byte 39) payload)
+
+-- no comma is a quote
+pub comma : ◌≡◌ {A = ℕ} 44 34 → ⊥
+comma h = omega (arith, h)
+
+module _ (text start : List ℕ) (opened : text ≡ 34 ∷ start) where
+  pub behind_quote : (a b : List ℕ) → pair_text a b ≡ text → start ≡ flat_map (doubled_byte 34) a ++ 34 ∷ 44 ∷ 32 ∷ 39 ∷ payload_text b
+  behind_quote a b e = append_cancel_left (34 ∷ []) start (flat_map (doubled_byte 34) a ++ 34 ∷ 44 ∷ 32 ∷ 39 ∷ payload_text b) (sym opened ∙ sym e ∙ pair_spelled a b)
+
+  module _ (x rest : List ℕ) (first : IsEnclosed 34 start x rest) where
+    pub behind_channel : (a b : List ℕ) → pair_text a b ≡ text → (a ≡ x) × (rest ≡ 44 ∷ 32 ∷ 39 ∷ payload_text b)
+    behind_channel a b e = first.alone a (44 ∷ 32 ∷ 39 ∷ payload_text b) comma (behind_quote a b e)
+
+    module _ (second : List ℕ) (parted : rest ≡ codes ", '" ++ second) where
+      pub at_payload : (a b : List ℕ) → pair_text a b ≡ text → second ≡ payload_text b
+      at_payload a b e = append_cancel_left (codes ", '") second (payload_text b) (sym parted ∙ (behind_channel a b e).1)
+
+      -- what stands behind the channel is no longer than the whole
+      pub second_short : (most : ℕ) → length text ≤ most → length second ≤ most
+      second_short most few = omega (arith, few, ap length opened, ap length first.spelled, length-append (flat_map (doubled_byte 34) x) (34 ∷ rest), ap length parted)
+
+      module _ (y left : List ℕ) (last : IsEnclosed 39 second y left) where
+        pub behind_payload : (a b : List ℕ) → pair_text a b ≡ text → (b ≡ y) × (left ≡ [])
+        behind_payload a b e = last.alone b [] tt (at_payload a b e)
+
+        -- where nothing follows, it is the channel and the payload
+        pub whole_pair : left ≡ [] → IsPair text x y
+        whole_pair none = record {
+          spelled = pair_spelled x y ∙ ap (λ (l : List ℕ). 34 ∷ (flat_map (doubled_byte 34) x ++ 34 ∷ 44 ∷ 32 ∷ 39 ∷ (flat_map (doubled_byte 39) y ++ 39 ∷ l))) (sym none)
+              ∙ ap (λ (l : List ℕ). 34 ∷ (flat_map (doubled_byte 34) x ++ 34 ∷ 44 ∷ 32 ∷ 39 ∷ l)) (sym last.spelled) ∙ ap (λ (l : List ℕ). 34 ∷ (flat_map (doubled_byte 34) x ++ 34 ∷ l)) (sym parted)
+              ∙ ap (λ (l : List ℕ). 34 ∷ l) (sym first.spelled) ∙ sym opened;
+          alone = λ a b e. ((behind_channel a b e).0, (behind_payload a b e).0);
+        }
+
+-- a text that is empty has no bytes, and one that is not has some
+pub empty_is : (text : List ℕ) (empty : Bool) → empty ≡ (length text == 0) → empty ≡ true → text ≡ []
+empty_is text empty e h = nil_from_length text (eqb-true (length text) 0 (sym e ∙ h))
+
+pub empty_not : (text : List ℕ) (empty : Bool) → empty ≡ (length text == 0) → empty ≡ false → text ≡ [] → ⊥
+empty_not text empty e h none = absurd (false≢true (sym h ∙ e ∙ ap (λ (l : List ℕ). length l == 0) none))
+
+-- a notification whose channel is none, or whose payload is
+pub no_channel : (text x y : List ℕ) → IsPair text x y → (IsName x → ⊥) → (note : Note) → IsNote note → note_text note ≡ text → ⊥
+no_channel text x y h none note k t = none (subst (λ (l : List ℕ). IsName l) (h.alone note.channel note.payload t).0 k.name)
+
+pub no_payload : (text x y : List ℕ) → IsPair text x y → (IsPayload y → ⊥) → (note : Note) → IsNote note → note_text note ≡ text → ⊥
+no_payload text x y h none note k t = none (subst (λ (l : List ℕ). IsPayload l) (h.alone note.channel note.payload t).1 k.text)
+
+-- a channel and a payload that were read make the notification
+pub note_read : (text x y channel payload : List ℕ) → IsPair text x y → IsName channel × (channel ≡ x) → IsPayload payload × (payload ≡ y)
+    → IsNote (record { channel = channel; payload = payload }) × (pair_text channel payload ≡ text)
+note_read text x y channel payload h a b = (
+  record { name = a.0; text = b.0 },
+  ap (λ (l : List ℕ). pair_text l payload) a.1 ∙ ap (λ (l : List ℕ). pair_text x l) b.1 ∙ h.spelled,
+)
+
+-- the name between quotes is the one of the text
+name_tells : (text x : List ℕ) (read : Option (List ℕ)) → IsAlone text x → MatchOption read (IsName x → ⊥) (λ name. IsName name × (name ≡ x))
+    → MatchOption read ((name : List ℕ) → IsName name → quoted 34 name ≡ text → ⊥) (λ name. IsName name × (quoted 34 name ≡ text))
+name_tells text x None h k = λ name valid e. k (subst (λ (l : List ℕ). IsName l) (h.alone name e) valid)
+name_tells text x (Some name) h k = (k.0, ap (λ (l : List ℕ). quoted 34 l) k.1 ∙ h.spelled)
+
+pub name_read : {E : Type 0} (text x : List ℕ) (read : Result (Option (List ℕ)) E) → IsAlone text x → IfOk read (λ read. MatchOption read (IsName x → ⊥) (λ name. IsName name × (name ≡ x)))
+    → IfOk read (λ read. MatchOption read ((name : List ℕ) → IsName name → quoted 34 name ≡ text → ⊥) (λ name. IsName name × (quoted 34 name ≡ text)))
+name_read text x (Ok read) h k = name_tells text x read h k
+name_read text x (Err e) h k = tt

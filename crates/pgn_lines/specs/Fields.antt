@@ -4,7 +4,7 @@ use Rattle.pgn_model.specs.Text.{holder_text}
 use Rattle.pgn_base.specs.declared.answers.Refusal.TheVariants as refused
 use Rattle.pgn_language.specs.Quotes.{doubled_byte, quoted}
 use Rattle.pgn_answers.specs.Refusals.{refusal_text}
-use Rattle.pgn_lines.specs.Shown.{IsSession}
+use Rattle.pgn_lines.specs.Shown.{IsLong, IsSession, IsShort, IsXid}
 
 -- a text is no number of these
 abbrev pub NoNumber : (ℕ → Type 0) → List ℕ → Type 0
@@ -31,6 +31,18 @@ NotNumbered P start line = (n : ℕ) → P n → start ++ decimal n ≡ line →
 -- it is this start and this number
 abbrev pub IsNumbered : (ℕ → Type 0) → List ℕ → List ℕ → ℕ → Type 0
 IsNumbered P start line n = P n × (start ++ decimal n ≡ line)
+
+-- a start, and two numbers with a blank between
+abbrev pub two_text : List ℕ → ℕ → ℕ → List ℕ
+two_text start first second = start ++ decimal first ++ codes " " ++ decimal second
+
+-- a line is not a start and two transaction numbers
+abbrev pub NotTwo : List ℕ → List ℕ → Type 0
+NotTwo start line = (first second : ℕ) → IsXid first → IsXid second → two_text start first second ≡ line → ⊥
+
+-- it is this start and these
+abbrev pub IsTwo : List ℕ → List ℕ → ℕ → ℕ → Type 0
+IsTwo start line first second = IsXid first × IsXid second × (two_text start first second ≡ line)
 
 -- a text names no holder
 abbrev pub NoHolder : List ℕ → Type 0
@@ -60,6 +72,12 @@ stand_text queued head mark page holder = decimal queued ++ 32 ∷ (codes "head 
 -- the whole line
 abbrev pub full_text : ℕ → ℕ → ℕ → ℕ → ℕ → Option ℕ → List ℕ
 full_text xid queued head mark page holder = codes "+full " ++ (decimal xid ++ 32 ∷ (codes "queued " ++ stand_text queued head mark page holder))
+
+-- a line is not that of a full queue
+abbrev pub NotFull : List ℕ → Type 0
+NotFull line =
+    (xid queued head mark page : ℕ) (holder : Option ℕ) → IsXid xid → IsShort queued → IsLong head → IsXid mark → IsLong page → IfSome holder IsSession
+    → full_text xid queued head mark page holder ≡ line → ⊥
 
 -- no quote follows
 abbrev pub EndsQuote : ℕ → List ℕ → Type 0

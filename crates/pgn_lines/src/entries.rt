@@ -29,18 +29,18 @@ pub fn committed(line: &str) -> Option<Shown>
     let Some(start) = after(line, "xid ") else {
         return None;
     };
-    let Some((xid, at_session)) = xid_then(start, "session ") else {
+    let Some(xid) = xid_then(start, "session ") else {
         return None;
     };
-    let Some((session, last)) = session_then(at_session, "commit ") else {
+    let Some(session) = session_then(xid.1, "commit ") else {
         return None;
     };
-    let Some(notes) = short(last) else {
+    let Some(notes) = short(session.1) else {
         return None;
     };
     Some(Shown::Committed {
-        xid,
-        session,
+        xid: xid.0,
+        session: session.0,
         notes,
     })
 }
@@ -54,22 +54,22 @@ pub fn aborted(line: &str) -> Option<Shown>
     let Some(start) = after(line, "xid ") else {
         return None;
     };
-    let Some((xid, at_session)) = xid_then(start, "session ") else {
+    let Some(xid) = xid_then(start, "session ") else {
         return None;
     };
-    let Some((session, at_queued)) = session_then(at_session, "abort ") else {
+    let Some(session) = session_then(xid.1, "abort ") else {
         return None;
     };
-    let Some((queued, last)) = short_then(at_queued, "of ") else {
+    let Some(queued) = short_then(session.1, "of ") else {
         return None;
     };
-    let Some(notes) = short(last) else {
+    let Some(notes) = short(queued.1) else {
         return None;
     };
     Some(Shown::Aborted {
-        xid,
-        session,
-        queued,
+        xid: xid.0,
+        session: session.0,
+        queued: queued.0,
         notes,
     })
 }

@@ -1,60 +1,17 @@
 ghost use Rattle.std.specs.Prelude.{◌≡◌, ℕ, Option, IfSome, MatchOption};
-ghost use Rattle.pgn_base.specs.declared.queue_answers.Full.{Full};
-ghost use Rattle.pgn_lines.specs.Fields.{floor_text, full_text, stand_text};
+ghost use Rattle.pgn_lines.specs.Fields.{NotFull, floor_text, full_text, stand_text};
 ghost use Rattle.pgn_lines.specs.Shown.{IsFull, IsLong, IsSession, IsShort, IsXid, Shows, Unshown};
 ghost use Rattle.pgn_lines.specs.declared.shown.Shown.TheVariants as show;
 
-use crate::fields::{holder, one_long, one_xid};
-use crate::numbers::{after, long_then, short_then, xid, xid_then};
+use crate::fields::holder;
+use crate::numbers::{after, long_then, short_then, xid_then};
 use crate::shown::Shown;
 use pgn_base::{Full, SessionNo, Xid};
 
-/// A session became a listener.
-pub fn enlist(line: &str) -> Option<Shown>
+/// The full queue that a line tells of.
+pub fn full_of(line: &str) -> Option<Full>
     ensures { MatchOption result
-        ((base point : ℕ) → Unshown line.now (show.Enlist base point))
-        (Shows line.now) }
-{
-    let Some(start) = after(line, "+enlist ") else {
-        return None;
-    };
-    let Some((base, last)) = xid_then(start, "") else {
-        return None;
-    };
-    let Some(point) = xid(last) else {
-        return None;
-    };
-    Some(Shown::Enlist { base, point })
-}
-
-/// A transaction committed.
-pub fn publish(line: &str) -> Option<Shown>
-    ensures { MatchOption result
-        ((xid : ℕ) → Unshown line.now (show.Publish xid))
-        (Shows line.now) }
-{
-    let xid = one_xid(line, "+publish ")?;
-    Some(Shown::Publish { xid })
-}
-
-/// A transaction met a full queue.
-pub fn queue_full(line: &str) -> Option<Shown>
-    ensures { MatchOption result
-        ((full : Full) → Unshown line.now (show.QueueFull full))
-        (Shows line.now) }
-{
-    let Some(full) = full_of(line) else {
-        return None;
-    };
-    Some(Shown::QueueFull { full })
-}
-
-// The full queue that a line tells of.
-fn full_of(line: &str) -> Option<Full>
-    ensures { MatchOption result
-        ((xid queued head mark page : ℕ) (holder : Option ℕ)
-        → IsXid xid → IsShort queued → IsLong head → IsXid mark → IsLong page
-        → IfSome holder IsSession → full_text xid queued head mark page holder ≡ line.now → ⊥)
+        (NotFull line.now)
         (λ full. IsFull full
         × (full_text full.xid full.queued full.head_page full.floor_mark full.floor_page full.holder
         ≡ line.now)) }
@@ -62,14 +19,14 @@ fn full_of(line: &str) -> Option<Full>
     let Some(start) = after(line, "+full ") else {
         return None;
     };
-    let Some((xid, at_stand)) = xid_then(start, "queued ") else {
+    let Some(xid) = xid_then(start, "queued ") else {
         return None;
     };
-    let Some(stand) = stand_of(at_stand) else {
+    let Some(stand) = stand_of(xid.1) else {
         return None;
     };
     Some(Full {
-        xid,
+        xid: xid.0,
         queued: stand.queued,
         head_page: stand.head_page,
         floor_mark: stand.mark,
@@ -96,18 +53,18 @@ fn stand_of(text: &str) -> Option<Stand>
         × IfSome stand.holder IsSession
         × (stand_text stand.queued stand.head_page stand.mark stand.page stand.holder ≡ text.now)) }
 {
-    let Some((queued, at_head)) = short_then(text, "head ") else {
+    let Some(queued) = short_then(text, "head ") else {
         return None;
     };
-    let Some((head_page, at_floor)) = long_then(at_head, "floor ") else {
+    let Some(head_page) = long_then(queued.1, "floor ") else {
         return None;
     };
-    let Some(floor) = floor_of(at_floor) else {
+    let Some(floor) = floor_of(head_page.1) else {
         return None;
     };
     Some(Stand {
-        queued,
-        head_page,
+        queued: queued.0,
+        head_page: head_page.0,
         mark: floor.mark,
         page: floor.page,
         holder: floor.holder,
@@ -129,27 +86,20 @@ fn floor_of(text: &str) -> Option<Floor>
         (λ floor. IsXid floor.mark × IsLong floor.page × IfSome floor.holder IsSession
         × (floor_text floor.mark floor.page floor.holder ≡ text.now)) }
 {
-    let Some((mark, at_page)) = xid_then(text, "page ") else {
+    let Some(mark) = xid_then(text, "page ") else {
         return None;
     };
-    let Some((page, at_holder)) = long_then(at_page, "holder ") else {
+    let Some(page) = long_then(mark.1, "holder ") else {
         return None;
     };
-    let Some(holder) = holder(at_holder) else {
+    let Some(holder) = holder(page.1) else {
         return None;
     };
-    Some(Floor { mark, page, holder })
-}
-
-/// A session stopped being a listener.
-pub fn leave(line: &str) -> Option<Shown>
-    ensures { MatchOption result (Unshown line.now show.Leave) (Shows line.now) }
-{
-    if line == "+leave" {
-        Some(Shown::Leave)
-    } else {
-        None
-    }
+    Some(Floor {
+        mark: mark.0,
+        page: page.0,
+        holder,
+    })
 }
 
 /// Where the queue's usage was measured.
@@ -161,66 +111,18 @@ pub fn measured(line: &str) -> Option<Shown>
     let Some(start) = after(line, "+usage ") else {
         return None;
     };
-    let Some((at, at_floor)) = xid_then(start, "floor ") else {
+    let Some(at) = xid_then(start, "floor ") else {
         return None;
     };
-    let Some((floor_mark, at_holder)) = xid_then(at_floor, "holder ") else {
+    let Some(floor_mark) = xid_then(at.1, "holder ") else {
         return None;
     };
-    let Some(holder) = holder(at_holder) else {
+    let Some(holder) = holder(floor_mark.1) else {
         return None;
     };
     Some(Shown::Measured {
-        at,
-        floor_mark,
+        at: at.0,
+        floor_mark: floor_mark.0,
         holder,
     })
-}
-
-/// A flag was raised.
-pub fn raise(line: &str) -> Option<Shown>
-    ensures { MatchOption result
-        ((value : ℕ) → Unshown line.now (show.Raise value))
-        (Shows line.now) }
-{
-    let value = one_xid(line, "+signal ")?;
-    Some(Shown::Raise { value })
-}
-
-/// An awaited flag was found.
-pub fn found(line: &str) -> Option<Shown>
-    ensures { MatchOption result
-        ((value : ℕ) → Unshown line.now (show.Found value))
-        (Shows line.now) }
-{
-    let value = one_xid(line, "+await ")?;
-    Some(Shown::Found { value })
-}
-
-/// An awaited flag was not found.
-pub fn timed_out(line: &str) -> Option<Shown>
-    ensures { MatchOption result
-        ((looks : ℕ) → Unshown line.now (show.TimedOut looks))
-        (Shows line.now) }
-{
-    let looks = one_long(line, "+timeout ")?;
-    Some(Shown::TimedOut { looks })
-}
-
-/// A session has read.
-pub fn read(line: &str) -> Option<Shown>
-    ensures { MatchOption result
-        ((from to : ℕ) → Unshown line.now (show.Read from to))
-        (Shows line.now) }
-{
-    let Some(start) = after(line, "+read ") else {
-        return None;
-    };
-    let Some((from, last)) = xid_then(start, "") else {
-        return None;
-    };
-    let Some(to) = xid(last) else {
-        return None;
-    };
-    Some(Shown::Read { from, to })
 }

@@ -1,8 +1,8 @@
 ghost use Rattle.std.specs.Prelude.{MatchOption};
-ghost use Rattle.pgn_lines.specs.Fields.{IsHolder, IsNumbered, NoHolder, NotNumbered};
+ghost use Rattle.pgn_lines.specs.Fields.{IsHolder, IsNumbered, IsTwo, NoHolder, NotNumbered, NotTwo};
 ghost use Rattle.pgn_lines.specs.Shown.{IsLong, IsShort, IsXid};
 
-use crate::numbers::{after, long, session, short, xid};
+use crate::numbers::{after, long, session, short, xid, xid_then};
 use pgn_base::{SessionNo, Xid};
 
 /// The transaction number after a start.
@@ -13,6 +13,24 @@ pub fn one_xid(line: &str, start: &str) -> Option<Xid>
 {
     let rest = after(line, start)?;
     xid(rest)
+}
+
+/// The two transaction numbers after a start.
+pub fn two_xids(line: &str, start: &str) -> Option<(Xid, Xid)>
+    ensures { MatchOption result
+        (NotTwo start.now line.now)
+        (λ two. IsTwo start.now line.now two.0 two.1) }
+{
+    let Some(rest) = after(line, start) else {
+        return None;
+    };
+    let Some(first) = xid_then(rest, "") else {
+        return None;
+    };
+    let Some(second) = xid(first.1) else {
+        return None;
+    };
+    Some((first.0, second))
 }
 
 /// The number of 32 bits after a start.

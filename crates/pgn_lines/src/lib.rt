@@ -6,7 +6,7 @@
 //! read.
 //!
 //! `read_line(alloc, "+publish 3")` gives `Shown::Publish` with the transaction number 3, and `read_line(alloc, "+publish 03")`
-//! nothing. There is a function for each kind of line, and one for each family of kinds.
+//! nothing. There is a function for each family of lines, and one for each kind that has more than a number.
 #![tactic(auto)]
 
 mod answers;

@@ -3,7 +3,8 @@ ghost use Rattle.pgn_lines.specs.Shown.{Answers, Entries, Events, Reads, ReadsOf
 
 use crate::answers::{end, no_savepoint, refused, tagged, warning};
 use crate::entries::{aborted, committed, journal};
-use crate::events::{enlist, found, leave, measured, publish, queue_full, raise, read, timed_out};
+use crate::events::{full_of, measured};
+use crate::fields::{one_long, one_xid, two_xids};
 use crate::rows::{channel, pages, received, sent};
 use crate::shown::Shown;
 use std::alloc::{AllocError, Global};
@@ -44,31 +45,32 @@ pub fn entry(line: &str) -> Option<Shown>
 pub fn event(line: &str) -> Option<Shown>
     ensures { ReadsOf Events line.now result }
 {
-    if let Some(shown) = publish(line) {
-        return Some(shown);
+    if let Some(xid) = one_xid(line, "+publish ") {
+        return Some(Shown::Publish { xid });
     }
-    if let Some(shown) = read(line) {
-        return Some(shown);
+    if let Some((from, to)) = two_xids(line, "+read ") {
+        return Some(Shown::Read { from, to });
     }
-    if let Some(shown) = enlist(line) {
-        return Some(shown);
+    if let Some((base, point)) = two_xids(line, "+enlist ") {
+        return Some(Shown::Enlist { base, point });
     }
-    if let Some(shown) = queue_full(line) {
-        return Some(shown);
+    if let Some(full) = full_of(line) {
+        return Some(Shown::QueueFull { full });
     }
-    if let Some(shown) = leave(line) {
-        return Some(shown);
+    if line == "+leave" {
+        return Some(Shown::Leave);
     }
     if let Some(shown) = measured(line) {
         return Some(shown);
     }
-    if let Some(shown) = raise(line) {
-        return Some(shown);
+    if let Some(value) = one_xid(line, "+signal ") {
+        return Some(Shown::Raise { value });
     }
-    if let Some(shown) = found(line) {
-        return Some(shown);
+    if let Some(value) = one_xid(line, "+await ") {
+        return Some(Shown::Found { value });
     }
-    timed_out(line)
+    let looks = one_long(line, "+timeout ")?;
+    Some(Shown::TimedOut { looks })
 }
 
 /// What a line shows of what a session was answered, or of how its section ends.

@@ -87,10 +87,10 @@ pub fn note_of(alloc: Global, text: &str) -> Result<Option<Note>, AllocError>
     let Some(pair) = pair_of(text) else {
         return Ok(None);
     };
-    let Some(channel) = name_of(unquoted(alloc, pair.channel)?)? else {
+    let Some(channel) = name_of(alloc, pair.channel)? else {
         return Ok(None);
     };
-    let Some(payload) = payload_of(unquoted(alloc, pair.payload)?)? else {
+    let Some(payload) = payload_of(alloc, pair.payload)? else {
         return Ok(None);
     };
     Ok(Some(Note { channel, payload }))
@@ -127,19 +127,16 @@ pub fn quoted_name(alloc: Global, text: &str) -> Result<Option<Name>, AllocError
     let Some(inner) = alone_of(text) else {
         return Ok(None);
     };
-    let Some(name) = name_of(unquoted(alloc, inner)?)? else {
-        return Ok(None);
-    };
-    Ok(Some(name))
+    name_of(alloc, inner)
 }
 
-/// The name of this text, if it is one.
-pub fn name_of(text: String) -> Result<Option<Name>, AllocError>
+/// The name that stands between quotes, if it is one.
+pub fn name_of(alloc: Global, inner: Enclosed<'_>) -> Result<Option<Name>, AllocError>
     ensures { IfOk result (λ read. MatchOption read
-        (IsName (string_bytes text) → ⊥)
-        (λ name. IsName name × (name ≡ string_bytes text))) }
+        (IsName (single inner.entry.quote inner.entry.raw.now) → ⊥)
+        (λ name. IsName name × (name ≡ single inner.entry.quote inner.entry.raw.now))) }
 {
-    match Name::from_string(text) {
+    match Name::from_string(unquoted(alloc, inner)?) {
         Ok(name) => {
             let _valid = name.as_bytes();
             Ok(Some(name))
@@ -149,13 +146,13 @@ pub fn name_of(text: String) -> Result<Option<Name>, AllocError>
     }
 }
 
-/// The payload of this text, if it is one.
-pub fn payload_of(text: String) -> Result<Option<Payload>, AllocError>
+/// The payload that stands between quotes, if it is one.
+pub fn payload_of(alloc: Global, inner: Enclosed<'_>) -> Result<Option<Payload>, AllocError>
     ensures { IfOk result (λ read. MatchOption read
-        (IsPayload (string_bytes text) → ⊥)
-        (λ payload. IsPayload payload × (payload ≡ string_bytes text))) }
+        (IsPayload (single inner.entry.quote inner.entry.raw.now) → ⊥)
+        (λ payload. IsPayload payload × (payload ≡ single inner.entry.quote inner.entry.raw.now))) }
 {
-    match Payload::from_string(text) {
+    match Payload::from_string(unquoted(alloc, inner)?) {
         Ok(payload) => {
             let _valid = payload.as_bytes();
             Ok(Some(payload))

@@ -79,13 +79,17 @@ fn sender_of(line: &str) -> Option<Sender<'_>>
     let Some(row) = after(line, "  ") else {
         return None;
     };
-    let Some((xid, at_pid)) = xid_then(row, "") else {
+    let Some(xid) = xid_then(row, "") else {
         return None;
     };
-    let Some((pid, text)) = short_then(at_pid, "") else {
+    let Some(pid) = short_then(xid.1, "") else {
         return None;
     };
-    Some(Sender { xid, pid, text })
+    Some(Sender {
+        xid: xid.0,
+        pid: pid.0,
+        text: pid.1,
+    })
 }
 
 /// A notification that was received.
