@@ -112,14 +112,17 @@ pub comma : ◌≡◌ {A = ℕ} 44 34 → ⊥
 comma h = omega (arith, h)
 
 module _ (text start : List ℕ) (opened : text ≡ 34 ∷ start) where
+  -- what follows the first quote of such a text
   pub behind_quote : (a b : List ℕ) → pair_text a b ≡ text → start ≡ flat_map (doubled_byte 34) a ++ 34 ∷ 44 ∷ 32 ∷ 39 ∷ payload_text b
   behind_quote a b e = append_cancel_left (34 ∷ []) start (flat_map (doubled_byte 34) a ++ 34 ∷ 44 ∷ 32 ∷ 39 ∷ payload_text b) (sym opened ∙ sym e ∙ pair_spelled a b)
 
   module _ (x rest : List ℕ) (first : IsEnclosed 34 start x rest) where
+    -- what stands between the quotes, and what follows the second
     pub behind_channel : (a b : List ℕ) → pair_text a b ≡ text → (a ≡ x) × (rest ≡ 44 ∷ 32 ∷ 39 ∷ payload_text b)
     behind_channel a b e = first.alone a (44 ∷ 32 ∷ 39 ∷ payload_text b) comma (behind_quote a b e)
 
     module _ (second : List ℕ) (parted : rest ≡ codes ", '" ++ second) where
+      -- what follows the quote of the payload
       pub at_payload : (a b : List ℕ) → pair_text a b ≡ text → second ≡ payload_text b
       at_payload a b e = append_cancel_left (codes ", '") second (payload_text b) (sym parted ∙ (behind_channel a b e).1)
 
@@ -128,6 +131,7 @@ module _ (text start : List ℕ) (opened : text ≡ 34 ∷ start) where
       second_short most few = omega (arith, few, ap length opened, ap length first.spelled, length-append (flat_map (doubled_byte 34) x) (34 ∷ rest), ap length parted)
 
       module _ (y left : List ℕ) (last : IsEnclosed 39 second y left) where
+        -- the payload, and nothing follows it
         pub behind_payload : (a b : List ℕ) → pair_text a b ≡ text → (b ≡ y) × (left ≡ [])
         behind_payload a b e = last.alone b [] tt (at_payload a b e)
 
@@ -140,17 +144,19 @@ module _ (text start : List ℕ) (opened : text ≡ 34 ∷ start) where
           alone = λ a b e. ((behind_channel a b e).0, (behind_payload a b e).0);
         }
 
--- a text that is empty has no bytes, and one that is not has some
+-- a text that is empty has no bytes
 pub empty_is : (text : List ℕ) (empty : Bool) → empty ≡ (length text == 0) → empty ≡ true → text ≡ []
 empty_is text empty e h = nil_from_length text (eqb-true (length text) 0 (sym e ∙ h))
 
+-- and one that is not has some
 pub empty_not : (text : List ℕ) (empty : Bool) → empty ≡ (length text == 0) → empty ≡ false → text ≡ [] → ⊥
 empty_not text empty e h none = absurd (false≢true (sym h ∙ e ∙ ap (λ (l : List ℕ). length l == 0) none))
 
--- a notification whose channel is none, or whose payload is
+-- a text whose channel is none is no notification
 pub no_channel : (text x y : List ℕ) → IsPair text x y → (IsName x → ⊥) → (note : Note) → IsNote note → note_text note ≡ text → ⊥
 no_channel text x y h none note k t = none (subst (λ (l : List ℕ). IsName l) (h.alone note.channel note.payload t).0 k.name)
 
+-- nor is one whose payload is none
 pub no_payload : (text x y : List ℕ) → IsPair text x y → (IsPayload y → ⊥) → (note : Note) → IsNote note → note_text note ≡ text → ⊥
 no_payload text x y h none note k t = none (subst (λ (l : List ℕ). IsPayload l) (h.alone note.channel note.payload t).1 k.text)
 
@@ -168,6 +174,7 @@ name_tells : (text x : List ℕ) (read : Option (List ℕ)) → IsAlone text x �
 name_tells text x None h k = λ name valid e. k (subst (λ (l : List ℕ). IsName l) (h.alone name e) valid)
 name_tells text x (Some name) h k = (k.0, ap (λ (l : List ℕ). quoted 34 l) k.1 ∙ h.spelled)
 
+-- what is read as the name between quotes is the name of the text
 pub name_read : {E : Type 0} (text x : List ℕ) (read : Result (Option (List ℕ)) E) → IsAlone text x → IfOk read (λ read. MatchOption read (IsName x → ⊥) (λ name. IsName name × (name ≡ x)))
     → IfOk read (λ read. MatchOption read ((name : List ℕ) → IsName name → quoted 34 name ≡ text → ⊥) (λ name. IsName name × (quoted 34 name ≡ text)))
 name_read text x (Ok read) h k = name_tells text x read h k

@@ -1,4 +1,4 @@
-ghost use Rattle.std.specs.Prelude.{◌≡◌, ℕ, List, ◌<◌, ◌≤◌, length, MatchOption, IfOk, string_bytes};
+ghost use Rattle.std.specs.Prelude.{◌≡◌, ℕ, List, ◌<◌, ◌≤◌, length, MatchOption, IfOk};
 ghost use Rattle.pgn_base.specs.declared.limits.TheConstants.{LINE_BYTES_MAX};
 ghost use Rattle.pgn_base.specs.Texts.{IsName, IsPayload};
 ghost use Rattle.pgn_language.specs.Quotes.{quoted};
