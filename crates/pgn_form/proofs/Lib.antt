@@ -7,3 +7,4 @@ pub mod ForwardLaws
 pub mod StandLaws
 pub mod SectionLaws
 pub mod ReaderLaws
+pub mod ToldLaws

@@ -143,6 +143,13 @@ come_on scenario out rest tail line place next draft after number sound h c s = 
   within = omega (arith, h.within, ap length c.parts, length-append line (10 ∷ tail));
 }
 
+-- so it has where a step has found the next place
+pub come_on_at : (scenario : Scenario) (out rest tail line : List ℕ) (place next : Place) (draft after : Draft) (number : ℕ) (found : Option Place) → IsSound scenario → HasCome scenario out rest place draft number → IsCut rest line tail
+    → MatchOption found ((other : Place) → IsStep scenario place line other → ⊥) (λ to. IsTaken scenario place draft line to after) → found ≡ Some next → HasCome scenario out tail next after (number + 1)
+come_on_at scenario out rest tail line place next draft after number found sound h c m e =
+    come_on scenario out rest tail line place next draft after number sound h c
+    (subst (λ (o : Option Place). MatchOption o ((other : Place) → IsStep scenario place line other → ⊥) (λ to. IsTaken scenario place draft line to after)) e m)
+
 -- lines that begin some output lead from its start
 begin_leads : (scenario : Scenario) (lines : List (List ℕ)) → IsSound scenario → BeginOutput scenario lines → (place : Place) × Lead scenario Start lines place
 begin_leads scenario lines sound h =

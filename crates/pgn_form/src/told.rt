@@ -1,4 +1,4 @@
-ghost use Rattle.std.specs.Prelude.{◌≡◌, ◌^◌, ◌<◌, ◌++◌, length, codes, IfOk, IfSome, bytes_eq};
+ghost use Rattle.std.specs.Prelude.{◌≡◌, ◌^◌, ◌<◌, [], ◌++◌, length, codes, decimal, IfOk, IfSome, OnOk, bytes_eq};
 ghost use Rattle.pgn_model.specs.Text.{section_line};
 ghost use Rattle.pgn_form.specs.Places.{Fits, told};
 ghost use Rattle.pgn_form.specs.declared.place.Place.TheVariants as at;
@@ -87,25 +87,32 @@ fn went_on(scenario: &Scenario, section: usize, begun: usize, line: &[u8]) -> Op
 fn is_head(alloc: Global, section: &Section, line: &[u8]) -> Result<bool, AllocError>
     ensures { IfOk result (λ same. same ≡ bytes_eq (section_line section.now) line.now) }
 {
-    let head = head(alloc, section)?;
-    Ok(head.as_slice() == line)
+    let mut head = Vec::new(alloc);
+    match put_head(&mut head, section) {
+        Ok(()) => Ok(head.as_slice() == line),
+        Err(AllocError) => Err(AllocError),
+    }
 }
 
-// The head of a section: its number, its name, its database and its process number.
-fn head(alloc: Global, section: &Section) -> Result<Vec<u8>, AllocError>
-    ensures { IfOk result (λ bytes. bytes.items ≡ section_line section.now) }
+// The head of a section, into an empty list: its number, its name, its database and its process number.
+fn put_head(bytes: &mut Vec<u8>, section: &Section) -> Result<(), AllocError>
+    requires empty { bytes.old.items ≡ [] }
+    ensures { OnOk result (bytes.new.items ≡ section_line section.now) }
 {
-    let mut bytes = Vec::new(alloc);
-    let mut buffer = Buffer::new();
-    bytes.extend_from_slice(b"session ")?;
-    bytes.extend_from_slice(buffer.format(section.no.get()).as_bytes())?;
+    put_number(bytes, b"session ", section.no.get())?;
     bytes.extend_from_slice(b" ")?;
     bytes.extend_from_slice(section.name.as_bytes())?;
-    bytes.extend_from_slice(b" db ")?;
-    bytes.extend_from_slice(buffer.format(section.db.get()).as_bytes())?;
-    bytes.extend_from_slice(b" pid ")?;
-    bytes.extend_from_slice(buffer.format(PID_BASE + section.no.get()).as_bytes())?;
-    Ok(bytes)
+    put_number(bytes, b" db ", section.db.get())?;
+    put_number(bytes, b" pid ", PID_BASE + section.no.get())
+}
+
+// A word and a number behind it.
+fn put_number(bytes: &mut Vec<u8>, word: &[u8], number: u32) -> Result<(), AllocError>
+    ensures { OnOk result (bytes.new.items ≡ bytes.old.items ++ word.now ++ decimal number) }
+{
+    let mut buffer = Buffer::new();
+    bytes.extend_from_slice(word)?;
+    bytes.extend_from_slice(buffer.format(number).as_bytes())
 }
 
 // A line shows a line of a script.
