@@ -1,12 +1,14 @@
 -- What is got of a list, and where a line that is known beforehand leads.
-use Rattle.std.proofs.Common.{◌≡◌, ℕ, ◌+◌, ◌<◌, ◌≤◌, Bool, cond, List, ◌++◌, length, get_or, slice_get, Option, None, Some, Result, Ok, Err, OnOk, codes, sym, ap, ◌∙◌, refl}
+use Rattle.std.proofs.Common.{◌≡◌, ℕ, ◌+◌, ◌<◌, ◌≤◌, ◌==◌, Bool, true, false, cond, List, ◌∷◌, ◌++◌, length, drop, get_or, slice_get, Option, None, Some, Result, Ok, Err, OnOk, codes, sym, ap, ◌∙◌, refl}
 use Rattle.std.specs.Prelude.{bytes_eq}
+use Rattle.std.proofs.lemmas.List.{drop_more}
 use Rattle.std.proofs.lemmas.Option.{slice_get_past, slice_get_read}
 use Rattle.pgn_language.specs.declared.scenario.ScriptLine.{ScriptLine}
 use Rattle.pgn_language.specs.declared.scenario.Section.{Section}
 use Rattle.pgn_language.specs.declared.scenario.Scenario.{Scenario}
 use Rattle.pgn_model.specs.declared.item.Item.TheVariants as item
 use Rattle.pgn_model.specs.Text.{section_line}
+use Rattle.pgn_reading.specs.Form.{database_of}
 use Rattle.pgn_lines.specs.declared.shown.Shown.{Shown}
 use Rattle.pgn_lines.specs.declared.shown.Shown.TheVariants.{End}
 use Rattle.pgn_form.specs.declared.draft.Draft.{Draft}
@@ -70,3 +72,19 @@ pub ended_at : {E : Type 0} (done : Result Unit E) (section : Option Section) (p
     → OnOk done (after ≡ ended draft mark (Some part)) → OnOk done (after ≡ of_section section draft shown)
 ended_at (Ok x) section part draft after shown mark e f h = h ∙ sym (ap (λ (s : Shown). of_section section draft s) e ∙ ap (λ (s : Option Section). ended draft mark s) f)
 ended_at (Err x) section part draft after shown mark e f h = tt
+
+-- the database of a session, from a place in the sections on
+database_at : (sections : List Section) (i : ℕ) (section : Section) (session : ℕ) (is : Bool) → i < length sections → section ≡ get_or sections i section → (section.no == session) ≡ is
+    → database_of (drop i sections) session ≡ cond is section.db (database_of (drop (i + 1) sections) session)
+database_at sections i section session is h e f =
+    ap (λ (ss : List Section). database_of ss session) (drop_more sections i section h ∙ ap (λ (s : Section). s ∷ drop (i + 1) sections) (sym e))
+    ∙ ap (λ (t : Bool). cond t section.db (database_of (drop (i + 1) sections) session)) f
+
+-- it is that of the section there, if this has its number
+pub database_here : (sections : List Section) (i : ℕ) (section : Section) (session : ℕ) → i < length sections → section ≡ get_or sections i section → (section.no == session) ≡ true → database_of (drop i sections) session ≡ section.db
+database_here sections i section session h e f = database_at sections i section session true h e f
+
+-- and else it is told from the next on
+pub database_next : (sections : List Section) (i : ℕ) (section : Section) (session : ℕ) → i < length sections → section ≡ get_or sections i section → (section.no == session) ≡ false
+    → database_of (drop (i + 1) sections) session ≡ database_of (drop i sections) session
+database_next sections i section session h e f = sym (database_at sections i section session false h e f)

@@ -83,7 +83,10 @@ impl Draft {
         match mem::replace(&mut self.part, Part::Nothing) {
             Part::Rows { names } => self.items.push(Item::Channels { names }),
             Part::Reads { from, to, got } => self.items.push(Item::Read { from, to, got }),
-            _ => Ok(()),
+            other => {
+                drop(other);
+                Ok(())
+            }
         }
     }
 
@@ -172,10 +175,13 @@ impl Draft {
     pub fn receive(&mut self, delivery: Delivery) -> Result<(), AllocError>
         ensures { OnOk result (self.new ≡ received self.old self.old.part delivery) }
     {
-        if let Part::Reads { got, .. } = &mut self.part {
-            return got.push(delivery);
+        match &mut self.part {
+            Part::Reads { got, .. } => got.push(delivery),
+            _ => {
+                drop(delivery);
+                Ok(())
+            }
         }
-        Ok(())
     }
 
     /// These notifications of a transaction were read, and so many are left.
@@ -219,17 +225,23 @@ impl Draft {
                 queued,
                 fate,
                 mut notes,
-            } => {
-                notes.push(note)?;
-                let head = Head {
-                    session,
-                    queued,
-                    fate,
-                };
-                self.entry(sections, left, &head, notes)
-            }
+            } => match notes.push(note) {
+                Ok(()) => {
+                    let head = Head {
+                        session,
+                        queued,
+                        fate,
+                    };
+                    self.entry(sections, left, &head, notes)
+                }
+                Err(AllocError) => {
+                    drop(notes);
+                    Err(AllocError)
+                }
+            },
             other => {
-                self.part = other;
+                drop(note);
+                self.set(other);
                 Ok(())
             }
         }

@@ -91,8 +91,11 @@ impl Draft {
         let Draft {
             journal,
             traces,
-            ..
+            items,
+            part,
         } = self;
+        drop(items);
+        drop(part);
         Reading { journal, traces }
     }
 }
