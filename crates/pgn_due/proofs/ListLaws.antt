@@ -200,6 +200,10 @@ pub record AreAfterTo (sent : List (ℕ × Delivery)) (count : ℕ) (after : Lis
   pub counted : length after ≡ count
   pub each : (at : ℕ) (one : ℕ × Delivery) → at < count → slice_get sent at ≡ Some one → IsFirst (is_on one.0 one.1.note.channel) sent (at + 1) (get_or after at None)
 
+-- for none of them
+pub after_none : (sent : List (ℕ × Delivery)) (after : List (Option ℕ)) → after ≡ [] → AreAfterTo sent 0 after
+after_none sent after none = record { counted = ap length none; each = λ at one lt there. absurd (omega (arith, lt)) }
+
 -- and for one more
 pub after_more : (sent : List (ℕ × Delivery)) (at : ℕ) (after new : List (Option ℕ)) (one : ℕ × Delivery) (next : Option ℕ) → slice_get sent at ≡ Some one → IsFirst (is_on one.0 one.1.note.channel) sent (at + 1) next → new ≡ after ++ next ∷ []
     → AreAfterTo sent at after → AreAfterTo sent (at + 1) new

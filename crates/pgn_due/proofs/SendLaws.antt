@@ -1,9 +1,9 @@
 -- What a journal sent, from transaction to transaction.
-use Rattle.std.proofs.Common.{◌≡◌, ℕ, zero, suc, ◌+◌, ◌<◌, List, [], ◌∷◌, ◌++◌, length, get_or, take, map, Option, None, Some, slice_index, refl, sym, ap, ◌∙◌, inl, inr, arith, append_assoc}
+use Rattle.std.proofs.Common.{◌≡◌, ℕ, zero, suc, ◌+◌, ◌-◌, ◌<◌, ◌≤◌, min, List, [], ◌∷◌, ◌++◌, length, get_or, take, map, Option, None, Some, slice_index, refl, sym, ap, ◌∙◌, inl, inr, arith, append_assoc}
 use Rattle.std.specs.Prelude.{slice_get}
 use Rattle.std.specs.Option.{option_map}
 use Rattle.std.proofs.lemmas.Bool.{cases_lt}
-use Rattle.std.proofs.lemmas.List.{append-nil, get_or_append_left, get_or_push, length-map, length-take, map-append, take_more}
+use Rattle.std.proofs.lemmas.List.{append-nil, get_or_append_left, get_or_push, length-append, length-map, length-take, map-append, take_all, take_more}
 use Rattle.std.proofs.lemmas.Option.{get_or_from_slice_get, none-some, same_Some, slice_get-map, slice_get_read, slice_get_within}
 use Rattle.pgn_base.specs.declared.limits.TheConstants.{FIRST_XID}
 use Rattle.pgn_base.specs.declared.note.Note.{Note}
@@ -11,7 +11,7 @@ use Rattle.pgn_base.specs.declared.note.Delivery.{Delivery}
 use Rattle.pgn_journal.specs.declared.tx.Tx.{Tx}
 use Rattle.pgn_journal.specs.Due.{delivery}
 use Rattle.pgn_due.specs.declared.sends.Spot.{Spot}
-use Rattle.pgn_due.specs.Sent.{sent_by, sent_from, sent_in, shown_at, shown_in, shown_note}
+use Rattle.pgn_due.specs.Sent.{AreStarts, sent_before, sent_by, sent_from, sent_in, shown_at, shown_in, shown_note}
 
 -- the first few and one more
 pub take_one : {X : Type 0} (xs : List X) (k : ℕ) (x : X) → slice_get xs k ≡ Some x → take (k + 1) xs ≡ take k xs ++ x ∷ []
@@ -92,6 +92,42 @@ begun_more journal starts new n start long push is h k lt = ap (λ (xs : List �
       let at : n ≡ k = omega (arith, behind, lt) in
       get_or_push starts start 0 k (omega (arith, at, long)) ∙ is ∙ ap (λ (m : ℕ). length (sent_in (take m journal))) at
 ]
+
+-- and there is one more
+pub starts_longer : (starts new : List ℕ) (n start : ℕ) → length starts ≡ n → new ≡ starts ++ start ∷ [] → length new ≡ n + 1
+starts_longer starts new n start long push = ap length push ∙ length-append starts (start ∷ []) ∙ ap (λ (m : ℕ). m + 1) long
+
+-- the spots of all transactions
+pub sent_all : (journal : List Tx) (spots : List Spot) (n : ℕ) → length journal ≤ n → map (shown_at journal) spots ≡ map Some (sent_in (take n journal)) → map (shown_at journal) spots ≡ map Some (sent_in journal)
+sent_all journal spots n past h = h ∙ ap (λ (txs : List Tx). map Some (sent_in txs)) (take_all n journal past)
+
+-- the starts of all transactions, and the end
+pub starts_all : (journal : List Tx) (starts new : List ℕ) (n start : ℕ) → length starts ≡ n → length journal ≤ n → n ≤ length journal → new ≡ starts ++ start ∷ [] → start ≡ length (sent_in (take n journal)) → Begun journal starts n
+    → AreStarts journal new
+starts_all journal starts new n start long past within push is h = record {
+  counted = omega (arith, starts_longer starts new n start long push, past, within);
+  each = λ k le. begun_more journal starts new n start long push is h k (omega (arith, le, past));
+}
+
+-- the first few, where there are fewer
+take_least : (txs : List Tx) (k : ℕ) → take (min k (length txs)) txs ≡ take k txs
+take_least [] k =
+    let none : List Tx = [] in
+    let e : min k (length none) ≡ 0 = omega arith in
+    ap (λ (n : ℕ). take n none) e ∙ nothing k
+  where
+    nothing : (n : ℕ) → [] ≡ take n (let none : List Tx = [] in none)
+    nothing zero = refl
+    nothing (suc n) = refl
+take_least (tx ∷ txs) zero = ap (λ (n : ℕ). take n (tx ∷ txs)) (let e : min zero (length (tx ∷ txs)) ≡ 0 = omega arith in e)
+take_least (tx ∷ txs) (suc k) =
+    let e : min (suc k) (length (tx ∷ txs)) ≡ suc (min k (length txs)) = omega arith in
+    ap (λ (n : ℕ). take n (tx ∷ txs)) e ∙ ap (λ (ts : List Tx). tx ∷ ts) (take_least txs k)
+
+-- the start of a number's transaction, or the end
+pub start_at : (journal : List Tx) (starts : List ℕ) (x at : ℕ) → AreStarts journal starts → at ≡ min (x - FIRST_XID) (length journal) → slice_index starts at ≡ sent_before journal x
+start_at journal starts x at h is =
+    h.each at (omega (arith, is)) ∙ ap (λ (n : ℕ). length (sent_in (take n journal))) is ∙ ap (λ (txs : List Tx). length (sent_in txs)) (take_least journal (x - FIRST_XID))
 
 -- A spot.
 

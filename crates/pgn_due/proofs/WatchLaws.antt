@@ -429,6 +429,14 @@ takes_off journal db mark set to end got i d old mid new is taken off lt its low
 abbrev pub HasActed : ℕ → Watch → List Action → Watch → Type 0
 HasActed from old actions now = Changes from old (λ set other. other ≡ applied set actions) now
 
+-- before the first one a watch is as it was
+pub acted_first : (from : ℕ) (old : Watch) → HasActed from old [] old
+acted_first from old = record {
+  feed = refl;
+  db = refl;
+  next = λ set are other e. subst (λ (s : List (List ℕ)). AreNext old.db s (sent_of old) from (keeps old)) (sym e) are;
+}
+
 applied-push : (set : List (List ℕ)) (actions : List Action) (action : Action) → applied set (actions ++ action ∷ []) ≡ after_action (applied set actions) action
 applied-push set [] action = refl
 applied-push set (a ∷ actions) action = applied-push (after_action set a) actions action

@@ -79,9 +79,7 @@ fn first_of(
         → IsFirst (is_on db channel.now) sent from found) }
 {
     let topic = Topic::new(alloc, db, channel)?;
-    let found = first_at(lists, &topic, from);
-    drop(topic);
-    Ok(found)
+    Ok(first_at(lists, &topic, from))
 }
 
 // The same, of a channel.

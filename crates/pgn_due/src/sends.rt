@@ -48,8 +48,8 @@ impl<'a> Sends<'a> {
     pub fn new(alloc: Global, journal: &'a [Tx]) -> Result<Sends<'a>, AllocError>
         ensures { IfOk result (λ sends. sends.journal.now ≡ journal.now) }
     {
-        let mut spots = Vec::new(alloc);
         let mut starts = Vec::with_capacity(alloc, journal.len())?;
+        let mut spots = Vec::new(alloc);
         for tx in 0..journal.len() {
             starts.push(spots.len())?;
             send(&mut spots, tx, &journal[tx])?;

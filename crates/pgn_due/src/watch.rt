@@ -68,7 +68,6 @@ impl<'a> Watch<'a> {
     }
 
     // An action does.
-    #[tactic(auto, using(crate::proofs::WatchLaws::unlistened_all))]
     fn follow(&mut self, action: &Action, from: usize) -> Result<(), AllocError>
         ensures { OnOk result
             (Changes from self.old (λ set other. other ≡ after_action set action.now) self.new) }

@@ -1,8 +1,11 @@
 use Rattle.std.proofs.Common.{arith}
 use Rattle.std.proofs.lemmas.Option.{slice_get_within}
 use Rattle.pgn_due.specs.Sent.{sent_in, shown}
-use Rattle.pgn_due.proofs.ListLaws.{after_more}
+use Rattle.pgn_due.proofs.ListLaws.{after_more, after_none}
 use Rattle.pgn_due.proofs.feed.after_of.Goals as goal
+
+pub loop-at-init : goal.loop-at-init
+loop-at-init c = after_none (sent_in c.args.sends.now.journal.now) c.in_ok-after.after.items c.in_ok-after.ensures.items
 
 pub loop-at-preserved : goal.loop-at-preserved
 loop-at-preserved c =

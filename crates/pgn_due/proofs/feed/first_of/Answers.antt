@@ -6,4 +6,4 @@ use Rattle.pgn_due.proofs.feed.first_of.Goals as goal
 
 pub returns : goal.returns
 returns c = λ sent listed.
-    subst (λ (t : Topic). IsFirst (is_on t.db t.channel) sent c.args.from c.first_at-found.result) c.in_ok-topic.ensures (c.first_at-found.ensures sent listed)
+    subst (λ (t : Topic). IsFirst (is_on t.db t.channel) sent c.args.from c.first_at.result) c.in_ok-topic.ensures (c.first_at.ensures sent listed)

@@ -4,8 +4,11 @@ use Rattle.pgn_base.specs.Channels.{applied}
 use Rattle.pgn_base.specs.declared.listen_set.Action.{Action}
 use Rattle.pgn_due.specs.Sent.{sent_before}
 use Rattle.pgn_due.specs.Next.{IsWatch}
-use Rattle.pgn_due.proofs.WatchLaws.{HasActed, acted_more, acts_at, journal_of}
+use Rattle.pgn_due.proofs.WatchLaws.{HasActed, acted_first, acted_more, acts_at, journal_of}
 use Rattle.pgn_due.proofs.watch.Watch.act.Goals as goal
+
+pub loop-action-init : goal.loop-action-init
+loop-action-init c = acted_first c.start-from.result c.args.self.now
 
 pub loop-action-preserved : goal.loop-action-preserved
 loop-action-preserved c =
