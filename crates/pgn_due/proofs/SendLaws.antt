@@ -1,5 +1,5 @@
 -- What a journal sent, from transaction to transaction.
-use Rattle.std.proofs.Common.{◌≡◌, ℕ, zero, suc, ◌+◌, ◌-◌, ◌<◌, ◌≤◌, min, List, [], ◌∷◌, ◌++◌, length, get_or, take, map, Option, None, Some, slice_index, refl, sym, ap, ◌∙◌, inl, inr, arith, append_assoc}
+use Rattle.std.proofs.Common.{◌≡◌, ℕ, zero, suc, ◌+◌, ◌-◌, ◌<◌, ◌≤◌, min, List, [], ◌∷◌, ◌++◌, Bool, cond, length, get_or, take, map, Option, None, Some, slice_index, refl, sym, ap, ◌∙◌, inl, inr, arith, append_assoc}
 use Rattle.std.specs.Prelude.{slice_get}
 use Rattle.std.specs.Option.{option_map}
 use Rattle.std.proofs.lemmas.Bool.{cases_lt}
@@ -9,6 +9,8 @@ use Rattle.pgn_base.specs.declared.limits.TheConstants.{FIRST_XID}
 use Rattle.pgn_base.specs.declared.note.Note.{Note}
 use Rattle.pgn_base.specs.declared.note.Delivery.{Delivery}
 use Rattle.pgn_journal.specs.declared.tx.Tx.{Tx}
+use Rattle.pgn_journal.specs.declared.tx.Fate.TheVariants.{Committed}
+use Rattle.pgn_journal.specs.Journal.{is_committed}
 use Rattle.pgn_journal.specs.Due.{delivery}
 use Rattle.pgn_due.specs.declared.sends.Spot.{Spot}
 use Rattle.pgn_due.specs.Sent.{AreStarts, sent_before, sent_by, sent_from, sent_in, shown_at, shown_in, shown_note}
@@ -54,6 +56,11 @@ shown_more journal at k tx old spots new lt push here h = by (slice_get tx.notes
         ∙ ap (λ (one : Option (ℕ × Delivery)). (map (shown_at journal) old ++ map Some (map f (take k tx.notes))) ++ one ∷ []) (spot_shows journal tx at k note here e)
         ∙ append_assoc (map (shown_at journal) old) (map Some (map f (take k tx.notes))) (Some (f note) ∷ [])
         ∙ ap (λ (shows : List (Option (ℕ × Delivery))). map (shown_at journal) old ++ shows) (sym these)
+
+-- all notifications of a transaction that committed
+pub shown_all : (journal : List Tx) (at : ℕ) (tx : Tx) (old new : List Spot) → tx.fate ≡ Committed → Shown journal at tx tx.notes old new → map (shown_at journal) new ≡ map (shown_at journal) old ++ map Some (sent_by (FIRST_XID + at) tx)
+shown_all journal at tx old new is h =
+    h ∙ ap (λ (b : Bool). map (shown_at journal) old ++ map Some (cond b (map (shown_by (FIRST_XID + at) tx) tx.notes) [])) (sym (ap is_committed is))
 
 -- One transaction more.
 

@@ -79,17 +79,9 @@ fn first_of(
         → IsFirst (is_on db channel.now) sent from found) }
 {
     let topic = Topic::new(alloc, db, channel)?;
-    Ok(first_at(lists, &topic, from))
-}
-
-// The same, of a channel.
-fn first_at(lists: &Lists, topic: &Topic, from: usize) -> Option<usize>
-    ensures { (sent : List (ℕ × Delivery)) → AreLists sent lists.now.entries
-        → IsFirst (is_on topic.now.db topic.now.channel) sent from result }
-{
-    match lists.get(topic) {
-        Some(list) => first_in(list, from),
-        None => None,
+    match lists.get(&topic) {
+        Some(list) => Ok(first_in(list, from)),
+        None => Ok(None),
     }
 }
 

@@ -1,6 +1,5 @@
 ghost use Rattle.std.specs.Prelude.{◌≡◌, ◌↔◌, ◌++◌, ◌+◌, ◌<◌, ◌≤◌, List, Some, true, length, map, slice_get, IfOk, OnOk};
 ghost use Rattle.pgn_journal.specs.declared.tx.Tx.{Tx};
-ghost use Rattle.pgn_journal.specs.Due.{delivery};
 ghost use Rattle.pgn_due.specs.Sent.{AreStarts, sent_before, sent_by, sent_in, shown, shown_at};
 
 use pgn_base::{Delivery, FIRST_XID, Note, PID_BASE};
@@ -102,17 +101,9 @@ impl<'a> Sends<'a> {
 fn send(spots: &mut Vec<Spot>, at: usize, tx: &Tx) -> Result<(), AllocError>
     ensures { OnOk result ((journal : List Tx) → slice_get journal at ≡ Some tx.now → map (shown_at journal) spots.new.items ≡ map (shown_at journal) spots.old.items ++ map Some (sent_by (FIRST_XID + at) tx.now)) }
 {
-    match tx.fate {
-        Fate::Committed => send_all(spots, at, tx),
-        Fate::Aborted => Ok(()),
+    if let Fate::Aborted = tx.fate {
+        return Ok(());
     }
-}
-
-// All its notifications.
-fn send_all(spots: &mut Vec<Spot>, at: usize, tx: &Tx) -> Result<(), AllocError>
-    ensures { OnOk result ((journal : List Tx) → slice_get journal at ≡ Some tx.now
-        → map (shown_at journal) spots.new.items ≡ map (shown_at journal) spots.old.items ++ map Some (map (λ note. (tx.now.db, delivery (FIRST_XID + at) tx.now.session note)) tx.now.notes)) }
-{
     for note in 0..tx.notes.as_slice().len() {
         spots.push(Spot { tx: at, note })?;
     }
