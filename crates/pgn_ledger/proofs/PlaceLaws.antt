@@ -1,7 +1,7 @@
 -- Places of a journal's transactions.
 use Rattle.std.proofs.Common.{◌≡◌, ℕ, zero, suc, ◌+◌, ◌-◌, ◌*◌, ◌^◌, ◌<◌, ◌≤◌, min, List, [], ◌∷◌, ◌++◌, length, get_or, take, drop, Some, fold, sym, ap, ◌∙◌, refl, arith, append_assoc}
 use Rattle.std.specs.Prelude.{All, slice_get}
-use Rattle.std.proofs.lemmas.List.{at_drop_more}
+use Rattle.std.proofs.lemmas.List.{at_drop_more, drop_all}
 use Rattle.std.proofs.lemmas.List.Sums.{sum_by-cons}
 use Rattle.std.proofs.lemmas.Option.{slice_get_read}
 use Rattle.pgn_base.specs.declared.limits.TheConstants.{FIRST_XID}
@@ -56,6 +56,10 @@ places_more format places at txs k tx all lt is h =
     append_assoc places (at ∷ []) (places_from format (after format at tx) (drop (k + 1) txs))
     ∙ ap (λ (t : Tx). places ++ places_from format at (t ∷ drop (k + 1) txs)) is
     ∙ ap (λ (ps : List ℕ). places ++ ps) (sym (at_drop_more (λ (ts : List Tx). places_from format at ts) txs k tx lt)) ∙ h
+
+-- with none left the end comes last
+pub places_end : (format : Format) (places : List ℕ) (at : ℕ) (txs : List Tx) (k : ℕ) (all : List ℕ) → length txs ≤ k → places ++ places_from format at (drop k txs) ≡ all → places ++ at ∷ [] ≡ all
+places_end format places at txs k all past h = ap (λ (ts : List Tx). places ++ places_from format at ts) (sym (drop_all k txs past)) ∙ h
 
 -- the place after a transaction is that of the next number
 pub place_more : (format : Format) (journal : List Tx) (at k : ℕ) (tx : Tx) → k < length journal → tx ≡ get_or journal k tx → at ≡ place format journal (FIRST_XID + k) → after format at tx ≡ place format journal (FIRST_XID + (k + 1))

@@ -1,10 +1,10 @@
 -- Whose transaction each is, and which of that session's.
-use Rattle.std.proofs.Common.{◌≡◌, ◌≢◌, ◌⊎◌, ℕ, zero, suc, ◌+◌, ◌<◌, ◌≤◌, ◌==◌, Bool, true, false, ◌&&◌, cond, List, [], ◌∷◌, ◌++◌, length, get_or, take, drop, Some, sym, ap, ◌∙◌, refl, subst, inl, inr, arith, append_assoc, slice_set, slice_index}
+use Rattle.std.proofs.Common.{◌≡◌, ◌≢◌, ◌⊎◌, ℕ, zero, suc, ◌+◌, ◌<◌, ◌≤◌, ◌==◌, Bool, true, false, ◌&&◌, cond, List, [], ◌∷◌, ◌++◌, length, get_or, take, drop, Some, sym, ap, ◌∙◌, refl, subst, inl, inr, arith, append_assoc, replicate, slice_set, slice_index}
 use Rattle.std.specs.Prelude.{slice_get}
 use Rattle.std.proofs.lemmas.Bool.{cases_Bool, false≢true}
 use Rattle.std.proofs.lemmas.Bool.Decides.{Decides-eqb}
 use Rattle.std.proofs.lemmas.List.Sums.{count_by-le-length, count_by_more_no, count_by_more_yes, sum_by-cons}
-use Rattle.std.proofs.lemmas.List.{append-nil, at_drop_more, get_or-set_other, get_or-set_same, length-set, length-take, take_more}
+use Rattle.std.proofs.lemmas.List.{append-nil, at_drop_more, drop_all, get_or-replicate, get_or-set_other, get_or-set_same, length-replicate, length-set, length-take, take_more}
 use Rattle.pgn_base.specs.declared.limits.TheConstants.{FIRST_XID, SECTIONS_MAX}
 use Rattle.pgn_journal.specs.declared.tx.Tx.{Tx}
 use Rattle.pgn_journal.specs.Journal.{xids_from, xids_of}
@@ -150,6 +150,13 @@ count_is session journal = xids_long session FIRST_XID journal
 
 -- One transaction more.
 
+-- before the first there is none
+pub turns_none : (counts : List ℕ) → counts ≡ replicate (SECTIONS_MAX + 1) 0 → AreTurns [] counts
+turns_none counts zeros = record {
+  counted = ap length zeros ∙ length-replicate {A = ℕ} (SECTIONS_MAX + 1) 0;
+  each = λ session few. ap (λ (ns : List ℕ). slice_index ns session) zeros ∙ get_or-replicate (SECTIONS_MAX + 1) session 0 0 (omega (arith, few));
+}
+
 -- one transaction more counts as a turn of its session
 pub turns_more : (txs : List Tx) (counts : List ℕ) (k s n : ℕ) (tx : Tx) → k < length txs → tx ≡ get_or txs k tx → s ≡ tx.session → s ≤ SECTIONS_MAX → n ≡ slice_index counts s → AreTurns (take k txs) counts
     → AreTurns (take (k + 1) txs) (slice_set counts s (n + 1))
@@ -175,6 +182,10 @@ turns_more txs counts k s n tx lt is mine within now h = record {
         never : (b : Bool) → (b ≡ true → ⊥) → b ≡ false
         never true f = absurd (f refl)
         never false f = refl
+
+-- with none left these are all the ranks
+pub ranks_end : (ranks : List ℕ) (txs : List Tx) (k : ℕ) → length txs ≤ k → ranks ++ ranks_from (take k txs) (drop k txs) ≡ ranks_from [] txs → ranks ≡ ranks_from [] txs
+ranks_end ranks txs k past h = sym (ap (λ (ts : List Tx). ranks ++ ranks_from (take k txs) ts) (drop_all k txs past) ∙ append-nil ranks) ∙ h
 
 -- a session has no more turns than there are transactions
 pub turn_low : (txs : List Tx) (counts : List ℕ) (k s n : ℕ) → s ≤ SECTIONS_MAX → n ≡ slice_index counts s → AreTurns (take k txs) counts → n ≤ k

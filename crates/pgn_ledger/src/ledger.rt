@@ -41,9 +41,9 @@ impl<'a> Ledger<'a> {
         ensures format { IfOk result (λ ledger. ledger.format ≡ format) }
         ensures journal { IfOk result (λ ledger. ledger.journal.now ≡ journal.now) }
     {
-        let feed = Feed::new(alloc, seed, journal)?;
         let places = places_of(alloc, format, journal)?;
         let turns = turns_of(alloc, journal)?;
+        let feed = Feed::new(alloc, seed, journal)?;
         Ok(Ledger {
             format,
             journal,

@@ -1,6 +1,6 @@
-ghost use Rattle.std.specs.Prelude.{◌≡◌, ◌+◌, ◌*◌, ◌^◌, ◌<◌, ◌≤◌, cond, length};
+ghost use Rattle.std.specs.Prelude.{◌≡◌, ◌+◌, ◌*◌, ◌^◌, ◌<◌, ◌≤◌, length};
 ghost use Rattle.pgn_journal.specs.Bytes.{aligned, entry_length, header_bytes, least_bytes};
-ghost use Rattle.pgn_journal.specs.Packing.{after, after_bytes, bytes_left, ended, fits, is_page_start, next_page, page_of, put, put_all};
+ghost use Rattle.pgn_journal.specs.Packing.{after, after_bytes, ended, fits, is_page_start, next_page, page_of, put, put_all};
 ghost use Rattle.pgn_ledger.specs.Places.{most_cells};
 
 use pgn_base::{CELL_BYTES, Format, Note, PAGE_BYTES};
@@ -33,20 +33,12 @@ pub fn is_page_start(at: u64) -> bool
     at / PAGE_CELLS * PAGE_CELLS == at
 }
 
-// The bytes from a place to the end of its page.
-fn bytes_left(at: u64) -> u64
-    requires { at < 2 ^ 63 }
-    ensures { result ≡ bytes_left at }
-{
-    (next_page(at) - at) * CELL_BYTES as u64
-}
-
 /// An entry of this many bytes fits on the page of a place, from the place on.
 pub fn fits(at: u64, bytes: u64) -> bool
     requires { at < 2 ^ 63 }
     ensures { result ≡ fits at bytes }
 {
-    bytes <= bytes_left(at)
+    bytes <= (next_page(at) - at) * CELL_BYTES as u64
 }
 
 // The length of an entry of so many bytes, rounded up.
@@ -137,7 +129,7 @@ pub fn put_all(format: Format, at: u64, notes: &[Note]) -> u64
     end
 }
 
-// The place where a transaction ends whose notifications end at a place.
+// The place where a transaction ends whose notifications end at a place: where it was aborted and no page begins there, the next page.
 #[tactic(auto, unfolding(pgn_journal::specs::Packing::ended))]
 fn ended(fate: Fate, at: u64) -> u64
     requires { at < 2 ^ 63 }
@@ -145,19 +137,13 @@ fn ended(fate: Fate, at: u64) -> u64
 {
     match fate {
         Fate::Committed => at,
-        Fate::Aborted => ended_early(at),
+        Fate::Aborted => {
+            if is_page_start(at) {
+                return at;
+            }
+            next_page(at)
+        }
     }
-}
-
-// The place itself where a page begins there, and otherwise where the next page begins.
-fn ended_early(at: u64) -> u64
-    requires { at < 2 ^ 63 }
-    ensures { result ≡ cond (is_page_start at) at (next_page at) }
-{
-    if is_page_start(at) {
-        return at;
-    }
-    next_page(at)
 }
 
 /// The place after a transaction that begins at a place.

@@ -1,7 +1,7 @@
 use Rattle.std.proofs.Common.{[], ◌∷◌, ◌++◌, sym, ◌∙◌, ap, List, ℕ, drop, ◌+◌}
 use Rattle.pgn_journal.proofs.PackingLemmas.{first_place}
 use Rattle.pgn_ledger.specs.Places.{places_from}
-use Rattle.pgn_ledger.proofs.PlaceLaws.{place_low, place_more, places_more}
+use Rattle.pgn_ledger.proofs.PlaceLaws.{place_low, place_more, places_end, places_more}
 use Rattle.pgn_ledger.proofs.places.places_of.Goals as goal
 
 pub loop-tx-init : goal.loop-tx-init
@@ -23,3 +23,6 @@ loop-tx-preserved c =
           ∙ places_more c.args.format c.loop-tx.places.items c.loop-tx.at c.args.journal.now c.loop-tx.tx-index c.tx-item.result _ c.loop-tx-test.true c.tx-item.is c.loop-tx.invariant.same;
       here = next ∙ place_more c.args.format c.args.journal.now c.loop-tx.at c.loop-tx.tx-index c.tx-item.result c.loop-tx-test.true c.tx-item.is c.loop-tx.invariant.here;
     }
+
+pub returns : goal.returns
+returns c = c.in_ok-push-2.ensures.items ∙ places_end c.args.format c.loop-tx.places.items c.loop-tx.at c.args.journal.now c.loop-tx.tx-index _ c.loop-tx-test.false c.loop-tx.invariant.same

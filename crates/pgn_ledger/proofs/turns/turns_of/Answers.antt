@@ -1,8 +1,15 @@
-use Rattle.std.proofs.Common.{◌≡◌, ◌<◌, ◌+◌, ◌∙◌, ◌++◌, ℕ, List, ap, take, drop, length, arith, slice_index}
-use Rattle.std.proofs.lemmas.List.{get_or_read}
-use Rattle.pgn_ledger.specs.Turns.{ranks_from, turns}
-use Rattle.pgn_ledger.proofs.TurnLaws.{ranks_more, turn_low, turns_more}
+use Rattle.std.proofs.Common.{◌≡◌, ◌<◌, ◌+◌, ◌∙◌, ◌++◌, ℕ, List, [], ap, subst, take, drop, length, arith, rules, slice_index}
+use Rattle.std.proofs.lemmas.List.{get_or_read, take_all}
+use Rattle.pgn_journal.specs.declared.tx.Tx.{Tx}
+use Rattle.pgn_ledger.specs.Turns.{AreTurns, ranks_from, turns}
+use Rattle.pgn_ledger.proofs.TurnLaws.{ranks_end, ranks_more, turn_low, turns_more, turns_none}
 use Rattle.pgn_ledger.proofs.turns.turns_of.Goals as goal
+
+pub loop-tx-init : goal.loop-tx-init
+loop-tx-init c = record {
+  same = ap (λ (rs : List ℕ). rs ++ ranks_from [] c.args.journal.now) c.in_ok-ranks.ensures.items;
+  counted = turns_none c.in_ok-counts.counts.items (c.in_ok-counts.ensures.items_if_clones_equal (λ y same. search rules));
+}
 
 pub overflow_add-index_mut : goal.overflow_add-index_mut
 overflow_add-index_mut c =
@@ -24,3 +31,9 @@ loop-tx-preserved c =
       counted = turns_more c.args.journal.now c.loop-tx.counts.items c.loop-tx.tx-index c.get-session.result c.index_mut.result.now c.tx-item.result c.loop-tx-test.true c.tx-item.is c.get-session.ensures.value (omega arith) now
           c.loop-tx.invariant.counted;
     }
+
+pub returns-clause-ranks : goal.returns-clause-ranks
+returns-clause-ranks c = ranks_end c.loop-tx.ranks.items c.args.journal.now c.loop-tx.tx-index c.loop-tx-test.false c.loop-tx.invariant.same
+
+pub returns-clause-counts : goal.returns-clause-counts
+returns-clause-counts c = subst (λ (txs : List Tx). AreTurns txs c.loop-tx.counts.items) (take_all c.loop-tx.tx-index c.args.journal.now c.loop-tx-test.false) c.loop-tx.invariant.counted
