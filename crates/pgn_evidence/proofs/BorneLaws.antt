@@ -1,10 +1,12 @@
 -- What the journal and all traces bear out.
-use Rattle.std.proofs.Common.{◌≡◌, ◌↔◌, ℕ, ◌+◌, ◌≤◌, Bool, true, false, ◌&&◌, List, [], ◌∷◌, ◌++◌, length, ap, ◌∙◌, refl, sym, subst, arith}
+use Rattle.std.proofs.Common.{◌≡◌, ◌↔◌, ℕ, ◌+◌, ◌≤◌, Bool, true, false, ◌&&◌, List, [], ◌∷◌, ◌++◌, Option, Some, length, ap, ◌∙◌, refl, sym, subst, arith}
 use Rattle.std.proofs.lemmas.List.{length-append}
 use Rattle.std.proofs.lemmas.List.Elements.{All-nil, All-push, filter_map-append}
-use Rattle.std.specs.Prelude.{All, Contains}
+use Rattle.std.specs.Prelude.{All, Contains, IfSome, slice_get}
+use Rattle.pgn_base.specs.declared.note.Note.{Note}
+use Rattle.pgn_base.specs.declared.queue_answers.Full.{Full}
 use Rattle.pgn_journal.specs.declared.tx.Tx.{Tx}
-use Rattle.pgn_journal.specs.Journal.{next_xid}
+use Rattle.pgn_journal.specs.Journal.{next_xid, xids_of}
 use Rattle.pgn_language.specs.declared.scenario.Section.{Section}
 use Rattle.pgn_model.specs.declared.item.Item.{Item}
 use Rattle.pgn_model.specs.declared.trace.Trace.{Trace}
@@ -14,7 +16,7 @@ use Rattle.pgn_model.specs.declared.item.Item.TheVariants as item
 use Rattle.pgn_model.specs.Legal.{IsFullThere, IsShownWithin, finished_xid, finished_xids}
 use Rattle.pgn_model.specs.Text.{item_lines}
 use Rattle.pgn_evidence.specs.Evidence.{finished_count}
-use Rattle.pgn_reading.specs.Blame.{IsBorneOut}
+use Rattle.pgn_reading.specs.Blame.{IsBorneOut, IsNextOwn}
 use Rattle.pgn_reading.specs.Shown.{ShowsMark, found_shown, named_shown, raised_in}
 
 both : (a b : Bool) → (a && b) ≡ true → (a ≡ true) × (b ≡ true)
@@ -50,6 +52,26 @@ borne_is settings sections journal traces s owed item a b c d e f g h i = (
 -- so it is of one pair where it is of each of a list of one
 pub all_one : (P : ℕ × ℕ → Type 0) (pair : ℕ × ℕ) (b : Bool) → (b ≡ true) ↔ P pair → (b ≡ true) ↔ All P (pair ∷ [])
 all_one P pair b h = (λ t. All-push P [] pair (All-nil P) (h.0 t), λ all. h.1 (all 0 pair (omega arith)))
+
+-- an item that shows no full queue
+pub full_none : (settings : Settings) (journal : List Tx) (i : Item) → ((full : Full) (notes : List Note) → i ≡ item.QueueFull full notes → ⊥) → (true ≡ true) ↔ IsFullThere settings journal i
+full_none settings journal (item.QueueFull full notes) other = absurd (other full notes refl)
+full_none settings journal i other = (λ _. tt, λ _. refl)
+
+-- the number of the transaction that an item shows as finished is the session's next
+pub next_own : (section : Section) (journal : List Tx) (before : List Item) (i : Item) (session own x : ℕ) (b : Bool) → section.no ≡ session → own ≡ length (finished_xids before) → finished_xid i ≡ Some x
+    → (b ≡ true) ↔ (slice_get (xids_of session journal) own ≡ Some x) → (b ≡ true) ↔ IsNextOwn section journal before i
+next_own section journal before i session own x b e f is h =
+    subst (λ (o : Option ℕ). (b ≡ true) ↔ IfSome o (λ y. slice_get (xids_of section.no journal) (length (finished_xids before)) ≡ Some y)) (sym is)
+    (subst (λ (s : ℕ). (b ≡ true) ↔ (slice_get (xids_of s journal) (length (finished_xids before)) ≡ Some x)) (sym e)
+    (subst (λ (n : ℕ). (b ≡ true) ↔ (slice_get (xids_of session journal) n ≡ Some x)) f h))
+
+-- an item that shows none as finished
+pub next_none : (section : Section) (journal : List Tx) (before : List Item) (i : Item) → ((x : ℕ) (notes : List Note) → i ≡ item.Publish x notes → ⊥) → ((full : Full) (notes : List Note) → i ≡ item.QueueFull full notes → ⊥)
+    → (true ≡ true) ↔ IsNextOwn section journal before i
+next_none section journal before (item.Publish x notes) p q = absurd (p x notes refl)
+next_none section journal before (item.QueueFull full notes) p q = absurd (q full notes refl)
+next_none section journal before i p q = (λ _. tt, λ _. refl)
 
 -- How many transactions an item shows.
 

@@ -31,8 +31,8 @@ impl Evidence {
             (λ evidence. IsEvidence sections.now traces.now evidence.raised evidence.stood) }
     {
         let mut raised = Pairs::new(alloc, seed);
-        let mut stood = Pairs::new(alloc, seed);
         raise_in(&mut raised, sections, traces)?;
+        let mut stood = Pairs::new(alloc, seed);
         stand_in(&mut stood, traces)?;
         Ok(Evidence { raised, stood })
     }
