@@ -14,3 +14,5 @@ pub mod ScriptLaws
 mod CutLaws
 -- one query, with a read behind it or without
 mod ExampleLaws
+-- what loops put
+mod PutLaws
