@@ -1,10 +1,14 @@
 -- What the journal and all traces bear out.
-use Rattle.std.proofs.Common.{◌≡◌, ◌↔◌, ℕ, ◌+◌, ◌≤◌, Bool, true, false, ◌&&◌, List, [], ◌∷◌, ◌++◌, Option, Some, length, ap, ◌∙◌, refl, sym, subst, arith}
+use Rattle.std.proofs.Common.{◌≡◌, ◌↔◌, ℕ, ◌+◌, ◌<◌, ◌≤◌, nat_le, inl, inr, Bool, true, false, ◌&&◌, List, [], ◌∷◌, ◌++◌, Option, Some, length, ap, ◌∙◌, refl, sym, subst, arith}
+use Rattle.std.proofs.lemmas.Bool.{false≢true}
+use Rattle.std.proofs.lemmas.Bool.Decides.{leb_tells}
 use Rattle.std.proofs.lemmas.List.{length-append}
 use Rattle.std.proofs.lemmas.List.Elements.{All-nil, All-push, filter_map-append}
 use Rattle.std.specs.Prelude.{All, Contains, IfSome, slice_get}
 use Rattle.pgn_base.specs.declared.note.Note.{Note}
+use Rattle.pgn_base.specs.declared.note.Delivery.{Delivery}
 use Rattle.pgn_base.specs.declared.queue_answers.Full.{Full}
+use Rattle.pgn_base.specs.declared.queue_answers.Usage.{Usage}
 use Rattle.pgn_journal.specs.declared.tx.Tx.{Tx}
 use Rattle.pgn_journal.specs.Journal.{next_xid, xids_of}
 use Rattle.pgn_language.specs.declared.scenario.Section.{Section}
@@ -52,6 +56,43 @@ borne_is settings sections journal traces s owed item a b c d e f g h i = (
 -- so it is of one pair where it is of each of a list of one
 pub all_one : (P : ℕ × ℕ → Type 0) (pair : ℕ × ℕ) (b : Bool) → (b ≡ true) ↔ P pair → (b ≡ true) ↔ All P (pair ∷ [])
 all_one P pair b h = (λ t. All-push P [] pair (All-nil P) (h.0 t), λ all. h.1 (all 0 pair (omega arith)))
+
+-- a number is within a number exactly where the comparison says so
+pub within_one : (n x g : ℕ) → g ≡ x → (nat_le g n ≡ true) ↔ (x ≤ n)
+within_one n x g is = elim (leb_tells g n) [
+  | inl h ↦ (λ e. omega (arith, is, h.1), λ le. h.0)
+  | inr h ↦ (λ e. absurd (false≢true (sym h.0 ∙ e)), λ le. absurd (let no : ⊥ = omega (arith, is, le, h.1) in no))
+]
+
+-- two are where the first is and the second is
+pub within_second : (n x y g h : ℕ) → g ≡ x → h ≡ y → g ≤ n → (nat_le h n ≡ true) ↔ ((x ≤ n) × (y ≤ n))
+within_second n x y g h is there low = (λ e. (omega (arith, is, low), (within_one n y h there).0 e), λ both. (within_one n y h there).1 both.1)
+
+-- and are not where the first is not
+pub within_first : (n x y g : ℕ) → g ≡ x → n < g → (nat_le g n ≡ true) ↔ ((x ≤ n) × (y ≤ n))
+within_first n x y g is high = (
+  λ e. let low : x ≤ n = (within_one n x g is).0 e in absurd (let no : ⊥ = omega (arith, is, high, low) in no),
+  λ both. (within_one n x g is).1 both.0,
+)
+
+-- an item that shows no number
+pub within_none : (n : ℕ) (i : Item) → ((base point : ℕ) → i ≡ item.Enlist base point → ⊥) → ((xid : ℕ) (notes : List Note) → i ≡ item.Publish xid notes → ⊥)
+    → ((full : Full) (notes : List Note) → i ≡ item.QueueFull full notes → ⊥) → ((usage : Usage) → i ≡ item.Used usage → ⊥) → ((value : ℕ) → i ≡ item.Raise value → ⊥) → ((value : ℕ) → i ≡ item.Found value → ⊥)
+    → ((from to : ℕ) (got : List Delivery) → i ≡ item.Read from to got → ⊥) → (true ≡ true) ↔ IsShownWithin n i
+within_none n (item.Enlist base point) a b c d e f g = absurd (a base point refl)
+within_none n (item.Publish xid notes) a b c d e f g = absurd (b xid notes refl)
+within_none n (item.QueueFull full notes) a b c d e f g = absurd (c full notes refl)
+within_none n (item.Used usage) a b c d e f g = absurd (d usage refl)
+within_none n (item.Raise value) a b c d e f g = absurd (e value refl)
+within_none n (item.Found value) a b c d e f g = absurd (f value refl)
+within_none n (item.Read from to got) a b c d e f g = absurd (g from to got refl)
+within_none n i a b c d e f g = (λ _. tt, λ _. refl)
+
+-- an item that names no holder
+pub named_none : (traces : List Trace) (i : Item) → ((full : Full) (notes : List Note) → i ≡ item.QueueFull full notes → ⊥) → ((usage : Usage) → i ≡ item.Used usage → ⊥) → (true ≡ true) ↔ All (ShowsMark traces) (named_shown i)
+named_none traces (item.QueueFull full notes) a b = absurd (a full notes refl)
+named_none traces (item.Used usage) a b = absurd (b usage refl)
+named_none traces i a b = (λ _. All-nil (ShowsMark traces), λ _. refl)
 
 -- an item that shows no full queue
 pub full_none : (settings : Settings) (journal : List Tx) (i : Item) → ((full : Full) (notes : List Note) → i ≡ item.QueueFull full notes → ⊥) → (true ≡ true) ↔ IsFullThere settings journal i
