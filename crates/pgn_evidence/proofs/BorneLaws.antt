@@ -1,10 +1,12 @@
 -- What the journal and all traces bear out.
-use Rattle.std.proofs.Common.{◌≡◌, ◌↔◌, ℕ, ◌+◌, ◌<◌, ◌≤◌, nat_le, inl, inr, Bool, true, false, ◌&&◌, List, [], ◌∷◌, ◌++◌, Option, Some, length, ap, ◌∙◌, refl, sym, subst, arith}
+use Rattle.std.proofs.Common.{◌≡◌, ◌↔◌, ℕ, suc, ◌+◌, ◌<◌, ◌≤◌, nat_le, inl, inr, Bool, true, false, ◌&&◌, List, [], ◌∷◌, ◌++◌, map, Option, Some, length, ap, ◌∙◌, refl, sym, subst, arith}
 use Rattle.std.proofs.lemmas.Bool.{false≢true}
 use Rattle.std.proofs.lemmas.Bool.Decides.{leb_tells}
-use Rattle.std.proofs.lemmas.List.{length-append}
+use Rattle.std.proofs.lemmas.List.{length-append, length-map}
 use Rattle.std.proofs.lemmas.List.Elements.{All-nil, All-push, filter_map-append}
 use Rattle.std.specs.Prelude.{All, Contains, IfSome, slice_get}
+use Rattle.pgn_base.specs.declared.answers.Tag.{Tag}
+use Rattle.pgn_base.specs.declared.answers.Warning.{Warning}
 use Rattle.pgn_base.specs.declared.note.Note.{Note}
 use Rattle.pgn_base.specs.declared.note.Delivery.{Delivery}
 use Rattle.pgn_base.specs.declared.queue_answers.Full.{Full}
@@ -14,11 +16,11 @@ use Rattle.pgn_journal.specs.Journal.{next_xid, xids_of}
 use Rattle.pgn_language.specs.declared.scenario.Section.{Section}
 use Rattle.pgn_model.specs.declared.item.Item.{Item}
 use Rattle.pgn_model.specs.declared.trace.Trace.{Trace}
-use Rattle.pgn_model.specs.Walk.{Owed, Settings, State}
+use Rattle.pgn_model.specs.Walk.{Awaiting, Owed, Settings, State}
 use Rattle.pgn_language.specs.declared.scenario.ScriptLine.{ScriptLine}
 use Rattle.pgn_model.specs.declared.item.Item.TheVariants as item
 use Rattle.pgn_model.specs.Legal.{IsFullThere, IsShownWithin, finished_xid, finished_xids}
-use Rattle.pgn_model.specs.Text.{item_lines}
+use Rattle.pgn_model.specs.Text.{channel_line, delivery_line, item_lines}
 use Rattle.pgn_evidence.specs.Evidence.{finished_count}
 use Rattle.pgn_reading.specs.Blame.{IsBorneOut, IsNextOwn}
 use Rattle.pgn_reading.specs.Shown.{ShowsMark, found_shown, named_shown, raised_in}
@@ -88,6 +90,11 @@ within_none n (item.Found value) a b c d e f g = absurd (f value refl)
 within_none n (item.Read from to got) a b c d e f g = absurd (g from to got refl)
 within_none n i a b c d e f g = (λ _. tt, λ _. refl)
 
+-- an item that finds no flag
+pub found_none : (raised : List (ℕ × ℕ)) (flag : ℕ) (i : Item) → ((value : ℕ) → i ≡ item.Found value → ⊥) → (true ≡ true) ↔ All (Contains raised) (found_shown (Awaiting flag) i)
+found_none raised flag (item.Found value) a = absurd (a value refl)
+found_none raised flag i a = (λ _. All-nil (Contains raised), λ _. refl)
+
 -- an item that names no holder
 pub named_none : (traces : List Trace) (i : Item) → ((full : Full) (notes : List Note) → i ≡ item.QueueFull full notes → ⊥) → ((usage : Usage) → i ≡ item.Used usage → ⊥) → (true ≡ true) ↔ All (ShowsMark traces) (named_shown i)
 named_none traces (item.QueueFull full notes) a b = absurd (a full notes refl)
@@ -113,6 +120,25 @@ pub next_none : (section : Section) (journal : List Tx) (before : List Item) (i 
 next_none section journal before (item.Publish x notes) p q = absurd (p x notes refl)
 next_none section journal before (item.QueueFull full notes) p q = absurd (q full notes refl)
 next_none section journal before i p q = (λ _. tt, λ _. refl)
+
+-- How many lines an item has.
+
+pub lines_channels : (lines : List ScriptLine) (i : Item) (names these : List (List ℕ)) → i ≡ item.Channels names → these ≡ names → length (item_lines lines i) ≡ length these
+lines_channels lines i names these is same = ap (λ (x : Item). length (item_lines lines x)) is ∙ length-map names channel_line ∙ sym (ap (λ (them : List (List ℕ)). length them) same)
+
+pub lines_read : (lines : List ScriptLine) (i : Item) (from to : ℕ) (got these : List Delivery) → i ≡ item.Read from to got → these ≡ got → length (item_lines lines i) ≡ length these + 1
+lines_read lines i from to got these is same =
+    let all : length (map delivery_line got) ≡ length these = length-map got delivery_line ∙ sym (ap (λ (them : List Delivery). length them) same) in
+    ap (λ (x : Item). length (item_lines lines x)) is ∙ (let one : suc (length (map delivery_line got)) ≡ length these + 1 = omega (arith, all) in one)
+
+-- one, where it has no more than one
+pub lines_one : (lines : List ScriptLine) (i : Item) → ((tag : Tag) (warning : Option Warning) → i ≡ item.Reply tag warning → ⊥) → ((names : List (List ℕ)) → i ≡ item.Channels names → ⊥) → ((usage : Usage) → i ≡ item.Used usage → ⊥)
+    → ((from to : ℕ) (got : List Delivery) → i ≡ item.Read from to got → ⊥) → length (item_lines lines i) ≡ 1
+lines_one lines (item.Reply tag warning) a b c d = absurd (a tag warning refl)
+lines_one lines (item.Channels names) a b c d = absurd (b names refl)
+lines_one lines (item.Used usage) a b c d = absurd (c usage refl)
+lines_one lines (item.Read from to got) a b c d = absurd (d from to got refl)
+lines_one lines i a b c d = refl
 
 -- How many transactions an item shows.
 
