@@ -2,7 +2,7 @@
 use Rattle.std.proofs.Common.{◌≡◌, ℕ, zero, suc, ◌+◌, ◌<◌, ◌≤◌, ◌⊎◌, Bool, true, false, cond, List, [], ◌∷◌, ◌++◌, length, drop, get_or, Option, Some, None, sym, ap, ◌∙◌, subst, refl, arith, inl, inr}
 use Rattle.std.specs.Prelude.{map}
 use Rattle.std.specs.Int.{w32, from_be_bytes}
-use Rattle.std.proofs.lemmas.Bool.{cases_Bool, cases_lt}
+use Rattle.std.proofs.lemmas.Bool.{cases_Bool, cases_lt, false≢true}
 use Rattle.std.proofs.lemmas.List.{length-append}
 use Rattle.pgn_queries.specs.declared.limits.TheConstants.{QUERIES_MAX}
 use Rattle.pgn_queries.specs.declared.wire_fault.WireFault.TheVariants.{BadLength, BadText, BadType, TooMany, Truncated}
@@ -143,8 +143,8 @@ record Asking (tally : Tally) (bytes : List ℕ) (asks : List Ask) (close : Clos
 extended_no_type : (bytes : List ℕ) → begins_extended bytes ≡ true → NextIs 0 (Fault (BadType 0)) [] bytes []
 extended_no_type [] e = absurd (cc)
 extended_no_type (x ∷ bytes) e =
-    client.NextIs.NoType x (x ∷ bytes) bytes [] [] refl (λ q. let no : is_extended 81 ≡ true = subst (λ (l : ℕ). is_extended l ≡ true) q e in cc)
-    (λ t. let no : is_extended 88 ≡ true = subst (λ (l : ℕ). is_extended l ≡ true) t e in cc)
+    client.NextIs.NoType x (x ∷ bytes) bytes [] [] refl (λ q. false≢true (subst (λ (l : ℕ). is_extended l ≡ true) q e))
+    (λ t. false≢true (subst (λ (l : ℕ). is_extended l ≡ true) t e))
 
 extended_by : (bytes : List ℕ) → begins_extended bytes ≡ true → Wrong Extended ≡ closed_by bytes (Fault (BadType 0))
 extended_by [] e = absurd (cc)

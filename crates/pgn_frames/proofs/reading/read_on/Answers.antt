@@ -1,10 +1,18 @@
-use Rattle.std.proofs.Common.{◌≡◌, ◌≤◌, ℕ, Option, Some, None, Result, Ok, Err, sym, ap, ◌∙◌, refl, rules, subst}
+use Rattle.std.proofs.Common.{◌≡◌, ◌<◌, ◌≤◌, ℕ, Option, Some, None, Result, Ok, Err, sym, ap, ◌∙◌, refl, rules, subst}
 use Rattle.pgn_frames.specs.declared.frame_fault.FrameFault.{FrameFault}
 use Rattle.pgn_frames.specs.declared.framing.NoFrame.{NoFrame}
-use Rattle.pgn_frames.specs.declared.framing.NoFrame.TheVariants.{Memory}
+use Rattle.pgn_frames.specs.declared.framing.NoFrame.TheVariants.{Failed, Memory}
+use Rattle.pgn_base.specs.Outside.{Rose}
 use Rattle.pgn_frames.specs.Reading.{TurnsInto}
 use Rattle.pgn_frames.proofs.ReadingLaws.{Turns-to, unrisen}
 use Rattle.pgn_frames.proofs.reading.read_on.Goals as goal
+
+-- an answer is no error, and an error is the one that it is
+apart : {A E : Type 0} (x : A) (y : E) → Ok x ≡ Err y → ⊥
+apart x y e = cc
+
+same_error : {A : Type 0} (m n : NoFrame) → (let r : Result A NoFrame = Err m in r) ≡ Err n → m ≡ n
+same_error m n e = cc
 
 pub loop-init : goal.loop-init
 loop-init g c = record { size = refl; on = c.requires.on; reads = λ most bytes h. h; same = refl }
@@ -49,3 +57,31 @@ returns-in-Ok-Some-clause-reads g c = λ most all h.
 pub returns-in-Err-clause-reads : goal.returns-in-Err-clause-reads
 returns-in-Err-clause-reads g c = λ most all h.
     Turns-to most c.read_one.new.at all (g.S.Source.left c.read_one.new.source) c.args.seats.now.inboxes.now c.read_one.new.callers c.in-Err.none (c.in-Err.ensures.turned most all (c.loop.invariant.reads most all h))
+
+pub returns-in-Ok-Some-clause-size : goal.returns-in-Ok-Some-clause-size
+returns-in-Ok-Some-clause-size g c = c.read_one.ensures.size ∙ c.loop.invariant.size
+
+pub returns-in-Err-clause-size : goal.returns-in-Err-clause-size
+returns-in-Err-clause-size g c = c.read_one.ensures.size ∙ c.loop.invariant.size
+
+pub returns-in-Ok-Some-clause-later : goal.returns-in-Ok-Some-clause-later
+returns-in-Ok-Some-clause-later g c = subst (λ (n : ℕ). n ≤ g.S.Source.faults c.read_one.new.source) c.loop.invariant.same c.read_one.ensures.later
+
+pub returns-in-Err-clause-later : goal.returns-in-Err-clause-later
+returns-in-Err-clause-later g c = subst (λ (n : ℕ). n ≤ g.S.Source.faults c.read_one.new.source) c.loop.invariant.same c.read_one.ensures.later
+
+pub returns-in-Ok-Some-clause-failed : goal.returns-in-Ok-Some-clause-failed
+returns-in-Ok-Some-clause-failed g c = λ e. absurd (apart _ _ e)
+
+pub returns-in-Err-clause-failed : goal.returns-in-Err-clause-failed
+returns-in-Err-clause-failed g c = λ e.
+    subst (λ (n : ℕ). Rose n (g.S.Source.faults c.read_one.new.source)) c.loop.invariant.same
+    (c.in-Err.ensures.failed (ap (λ (n : NoFrame). let r : Result (Option (Option FrameFault)) NoFrame = Err n in r) (same_error _ _ e)))
+
+pub returns-in-Ok-Some-clause-rose : goal.returns-in-Ok-Some-clause-rose
+returns-in-Ok-Some-clause-rose g c = λ less. absurd (apart _ _ (c.in-Ok-Some.ensures.rose (subst (λ (n : ℕ). n < g.S.Source.faults c.read_one.new.source) (sym c.loop.invariant.same) less)))
+
+pub returns-in-Err-clause-rose : goal.returns-in-Err-clause-rose
+returns-in-Err-clause-rose g c = λ less.
+    ap (λ (n : NoFrame). let r : Result (Option FrameFault) NoFrame = Err n in r)
+    (same_error _ _ (c.in-Err.ensures.rose (subst (λ (n : ℕ). n < g.S.Source.faults c.read_one.new.source) (sym c.loop.invariant.same) less)))
