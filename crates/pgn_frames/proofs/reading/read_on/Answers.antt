@@ -1,7 +1,7 @@
 use Rattle.std.proofs.Common.{◌≡◌, ◌<◌, ◌≤◌, ℕ, Option, Some, None, Result, Ok, Err, sym, ap, ◌∙◌, refl, rules, subst}
 use Rattle.pgn_frames.specs.declared.frame_fault.FrameFault.{FrameFault}
 use Rattle.pgn_frames.specs.declared.framing.NoFrame.{NoFrame}
-use Rattle.pgn_frames.specs.declared.framing.NoFrame.TheVariants.{Failed, Memory}
+use Rattle.pgn_frames.specs.declared.framing.NoFrame.TheVariants.{Memory}
 use Rattle.pgn_base.specs.Outside.{Rose}
 use Rattle.pgn_frames.specs.Reading.{TurnsInto}
 use Rattle.pgn_frames.proofs.ReadingLaws.{Turns-to, unrisen}
