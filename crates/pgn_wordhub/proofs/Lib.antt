@@ -7,10 +7,13 @@ mod StoringLaws
 mod PlacingKept
 mod PassingLaws
 mod WakeLaws
+mod DecidingLaws
 mod OpenedLaws
 mod LookLaws
 mod AdvanceLaws
+mod AdvanceSteps
 mod UsageLaws
 mod PublishLaws
 mod ServingLaws
+mod StayLaws
 mod RefusedCases

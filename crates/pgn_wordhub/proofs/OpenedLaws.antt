@@ -1,5 +1,5 @@
 -- Passes as they are opened are the hub's.
-use Rattle.std.proofs.Common.{◌≡◌, ℕ, zero, suc, ◌+◌, ◌-◌, ◌<◌, ◌≤◌, List, [], ◌∷◌, length, map, get_or, slice_get, Option, IsSomeAnd, All, sym, refl, ap, ◌∙◌, subst, arith}
+use Rattle.std.proofs.Common.{◌≡◌, ℕ, zero, suc, ◌+◌, ◌-◌, ◌<◌, ◌≤◌, List, [], ◌∷◌, length, vec_len, map, get_or, slice_get, Option, IsSomeAnd, All, sym, refl, ap, ◌∙◌, subst, arith}
 use Rattle.std.proofs.lemmas.List.{length-map, get_or-map}
 use Rattle.std.proofs.lemmas.List.Elements.{All-nil}
 use Rattle.std.proofs.lemmas.Option.{slice_get-get_or}
@@ -11,7 +11,12 @@ use Rattle.pgn_words.specs.declared.pass.WordPass.{WordPass}
 use Rattle.pgn_words.specs.Views.{is_settled}
 use Rattle.pgn_words.specs.Positions.{marked, shown_as}
 use Rattle.pgn_words.specs.Passes.{IsFresh, view_of, known_of}
-use Rattle.pgn_wordhub.specs.Passes.{IsHubView}
+use Rattle.pgn_wordhub.specs.declared.hub.WordHub.{WordHub}
+use Rattle.pgn_wordhub.specs.Passes.{IsHubView, hub_shape}
+
+-- there is a database for each seat
+pub dbs_long : (hub : WordHub) → vec_len hub.dbs ≡ length (hub_shape hub).seats
+dbs_long hub = hub.dbs.ok.0 ∙ ap length hub.databases ∙ length-map (hub_shape hub).seats (λ seat. seat.db)
 
 -- the pass of a seat among those that are opened
 at_opened : (n k : ℕ) (seats : List SeatSetup) (e : Known) (s : SeatSetup) → k < length seats → get_or (opened_passes n seats) k e ≡ opened_pass (n + k) (get_or seats k s)

@@ -165,3 +165,11 @@ placing_on w x notes placed at is grows h =
     let within = h.within in
     subst (λ (u : View). IsPlacing u notes placed at) (sym is)
     (record { phase = h.phase; notes_are = h.notes_are; valid = h.valid; fresh = h.fresh; lies = h.lies; end = h.end; room = h.room; low = h.low; within = omega (arith, within, grows) })
+
+-- to advance is to write, of which nothing is placed
+pub advance_written : (z : Shape) (v w : View) (mark at : ℕ) (holder : Option ℕ) → w ≡ advanced_view w v → HasAdvancedTo z v w mark at holder → HasWritten v w
+advance_written z v w mark at holder is adv = record {
+  more = adv.named;
+  view = is ∙ ap (λ (n : List (ℕ × ℕ)). let u : View = record v { stop = w.stop; eye = w.eye; known = record v.known { named = n; advance = w.known.advance } } in u) adv.named_is
+      ∙ ap (λ (x : View). let u : View = record v { stop = w.stop; eye = w.eye; pen = record v.pen { cells = x.pen.cells; batch = x.pen.batch }; known = record v.known { named = v.known.named ++ adv.named; advance = w.known.advance } } in u) (sym is);
+}

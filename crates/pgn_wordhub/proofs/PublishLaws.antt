@@ -22,9 +22,11 @@ use Rattle.pgn_layout.proofs.PlacingLaws.{placing_begins, placed_is_draft, place
 use Rattle.pgn_words.specs.declared.view.View.{View}
 use Rattle.pgn_words.specs.declared.view.Verdict.{Verdict}
 use Rattle.pgn_words.specs.Words.{seats_of}
-use Rattle.pgn_words.specs.Told.{MayEnd, freed}
+use Rattle.pgn_words.specs.Views.{AreDecided}
+use Rattle.pgn_words.specs.declared.view.Phase.TheVariants.{Signalling}
+use Rattle.pgn_words.specs.Told.{MayEnd, ended_by, fin_stored, freed}
 use Rattle.pgn_wordhub.specs.Placing.{writer_of, begun_view, IsPlacing, HasWritten, IsHeldUp}
-use Rattle.pgn_wordhub.specs.Finishing.{own_tx, finished_view, HasCommitted}
+use Rattle.pgn_wordhub.specs.Finishing.{own_tx, finished_view, HasCommitted, HasEnded}
 use Rattle.pgn_wordhub.proofs.UsageLaws.{held_by_none}
 
 -- a writer that has drawn its number begins at the head
@@ -217,4 +219,36 @@ meets_full z v d e g notes stop placed at mark floor x holder verdicts concerned
       looked = subst (λ (a : Advance). LooksTwice z k.session k.mark a) (sym advance) u.looked;
       floor = subst (λ (a : Advance). IsFloor x (met_by a) mark holder) (sym advance) (subst (λ (n : ℕ). IsFloor n (met_by e.known.advance) mark holder) (sym number) u.floor_is);
       met = subst (λ (a : Advance). All (Contains u.more) (met_by a)) (sym advance) u.met;
+    }
+
+-- a transaction with notifications is one more than the journal has, among those that may be sent
+pub one_more : (notes : List Note) (count left limit : ℕ) → notes ≢ [] → length notes ≤ left → count + left ≤ limit → count < limit
+one_more [] count left limit some few room = absurd (some refl)
+one_more (note ∷ notes) count left limit some few room = omega (arith, few, room)
+
+-- what a writer is as a listener stays, from its number to where it stops placing
+written_from : (v b e : View) (notes : List Note) (stop : ℕ) (h : HasWritten b e) → b ≡ begun_view notes stop v → e ≡ record (begun_view notes stop v) {
+  stop = e.stop;
+  eye = e.eye;
+  pen = record (begun_view notes stop v).pen { cells = e.pen.cells; batch = e.pen.batch };
+  known = record (begun_view notes stop v).known { named = (begun_view notes stop v).known.named ++ h.more; advance = e.known.advance };
+}
+written_from v b e notes stop h begun =
+    h.view ∙ ap (λ (u : View). let y : View = record u { stop = e.stop; eye = e.eye; pen = record u.pen { cells = e.pen.cells; batch = e.pen.batch }; known = record u.known { named = u.known.named ++ h.more; advance = e.known.advance } } in y) begun
+
+-- the pass has ended its transaction, whose notifications are not all placed
+pub ends_full : (v b e w : View) (notes : List Note) (stop : ℕ) (tx : Tx) → b ≡ begun_view notes stop v → HasWritten b e → w ≡ finished_view tx w.verdicts w.concerned e → AreDecided w.verdicts → HasEnded v w
+ends_full v b e w notes stop tx begun h is decided =
+    let from = is ∙ ap (finished_view tx w.verdicts w.concerned) (written_from v b e notes stop h begun) in record {
+      view = subst (λ (q : View). q ≡ record v { phase = Signalling; ended = q.ended; stop = q.stop; loaded_stop = q.loaded_stop; pen = q.pen; eye = q.eye; verdicts = q.verdicts; concerned = q.concerned; known = q.known }) (sym from) refl;
+      decided = decided;
+    }
+
+-- and the same where all are
+pub ends_whole : (v b e w : View) (notes : List Note) (stop : ℕ) (tx : Tx) → b ≡ begun_view notes stop v → HasWritten b e → HasCommitted e w tx → HasEnded v w
+ends_whole v b e w notes stop tx begun h committed =
+    let from = committed.view
+    ∙ ap (λ (u : View). let y : View = record (finished_view tx w.verdicts w.concerned u) { stop = w.stop; eye = w.eye; known = record (fin_stored (ended_by tx u)).known { named = u.known.named ++ committed.named; advance = w.known.advance } } in y) (written_from v b e notes stop h begun) in record {
+      view = subst (λ (q : View). q ≡ record v { phase = Signalling; ended = q.ended; stop = q.stop; loaded_stop = q.loaded_stop; pen = q.pen; eye = q.eye; verdicts = q.verdicts; concerned = q.concerned; known = q.known }) (sym from) refl;
+      decided = committed.decided;
     }

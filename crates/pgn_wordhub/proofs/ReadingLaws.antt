@@ -67,3 +67,11 @@ front_on n xs ys more long is =
     let size : length (take n xs) ≡ n = ap length is ∙ long in
     let short = length-take n xs in
     take-append-le n xs more (omega (arith, size, short)) ∙ is
+
+-- an entry that was found not to be due adds nothing
+pub not_due : (db : ℕ) (channels : List (List ℕ)) (committed : ℕ → Bool) (got : List Delivery) (note : Note) (sender : Sender) (b : Bool) (channel : List ℕ) (xid : ℕ) → sender.db ≡ db → b ≡ (has_name channels channel && committed xid)
+    → channel ≡ note.channel → xid ≡ sender.xid → b ≡ false → got ≡ got ++ gives db channels committed (AnEntry note sender)
+not_due db channels committed got note sender b channel xid of_db due channel_is xid_is off =
+    let is : b ≡ (has_name channels note.channel && committed sender.xid) =
+    due ∙ ap (λ (l : List ℕ). has_name channels l && committed xid) channel_is ∙ ap (λ (n : ℕ). has_name channels note.channel && committed n) xid_is in
+    sym (append-nil got) ∙ ap (λ l. got ++ l) (sym (gives_when db channels committed note sender false of_db (sym off ∙ is)))

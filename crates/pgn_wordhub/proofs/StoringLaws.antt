@@ -1,12 +1,15 @@
 -- Cells that are stored past the head, one after another.
 use Rattle.std.proofs.Common.{◌≡◌, ℕ, zero, suc, ◌+◌, ◌*◌, ◌/◌, ◌<◌, ◌≤◌, ◌==◌, false, cond, List, [], ◌∷◌, ◌++◌, length, take, drop, slice_get, Option, Some, unwrap_or, sym, ap, ◌∙◌, arith}
 use Rattle.std.specs.Int.{w32, from_le_bytes}
-use Rattle.std.proofs.lemmas.List.{append_assoc, length-append, length-take, take_all}
+use Rattle.std.proofs.lemmas.List.{append-nil, append_assoc, length-append, length-take, take_all}
 use Rattle.std.proofs.Math.Seq.{take-suc}
 use Rattle.std.proofs.lemmas.Option.{slice_get_within, get_or_from_slice_get}
 use Rattle.std.proofs.lemmas.Bool.Decides.{nat_tests}
 use Rattle.pgn_base.specs.declared.format.Format.{Format}
 use Rattle.pgn_base.specs.declared.note.Note.{Note}
+use Rattle.pgn_base.specs.declared.limits.TheConstants.{PID_BASE}
+use Rattle.pgn_journal.specs.Journal.{next_xid}
+use Rattle.pgn_hub.specs.declared.known.Known.{Known}
 use Rattle.pgn_journal.specs.Bytes.{entry_length, spelled, filler, IsEntryLength}
 use Rattle.pgn_journal.specs.Packing.{Sender, filled_cells, page_of, page_start, HasRoom}
 use Rattle.pgn_journal.proofs.BytesLemmas.{length-spelled, length-filler}
@@ -18,7 +21,7 @@ use Rattle.pgn_journal.proofs.PieceLaws.{cells_hold_numbers}
 use Rattle.pgn_words.specs.declared.view.View.{View}
 use Rattle.pgn_words.specs.Views.{stored_by}
 use Rattle.pgn_words.specs.Told.{cell_stored}
-use Rattle.pgn_wordhub.specs.Placing.{stored_more}
+use Rattle.pgn_wordhub.specs.Placing.{stored_more, writer_of}
 
 -- how many cells are stored
 pub stored_long : (v w : View) (cells : List (Option ℕ)) → w ≡ stored_more cells v → length (stored_by w) ≡ length (stored_by v) + length cells
@@ -112,3 +115,52 @@ filler_within format sender at notes batch end room planned below some =
     let bytes = length-filler format batch.filler sender.xid sender.pid (omega (arith, least, head.0)) in
     let quarter : length (filler format batch.filler sender.xid sender.pid) / 4 ≡ batch.filler / 4 = ap (λ n. n / 4) bytes in
     (long, omega (arith, all, size, cells, quarter))
+
+-- the cells of a run with one entry more
+entries_more : (format : Format) (sender : Sender) (run : List Note) (i : ℕ) (note : Note) → slice_get run i ≡ Some note
+    → entries_of format sender (take (suc i) run) ≡ entries_of format sender (take i run) ++ entry_of format sender note
+entries_more format sender [] i note e = absurd (let inside = slice_get_within [] i note e in omega (arith, inside))
+entries_more format sender (n ∷ run) zero note e = append-nil (entry_of format sender n) ∙ ap (λ (o : Option Note). entry_of format sender (unwrap_or o n)) e
+entries_more format sender (n ∷ run) (suc i) note e =
+    ap (λ l. entry_of format sender n ++ l) (entries_more format sender run i note e) ∙ sym (append_assoc (entry_of format sender n) (entries_of format sender (take i run)) (entry_of format sender note))
+
+-- a writer that has stored so many entries of a run, and then the next
+pub entries_on : (format : Format) (v w x : View) (run : List Note) (i at next end : ℕ) (note : Note) → slice_get run i ≡ Some note → w ≡ stored_more (entries_of format (writer_of v.known) (take i run)) v
+    → next ≡ at + length (entries_of format (writer_of v.known) (take i run)) → x ≡ stored_more (entry_of format (writer_of w.known) note) w → end ≡ next + length (entry_of format (writer_of w.known) note)
+    → (x ≡ stored_more (entries_of format (writer_of v.known) (take (i + 1) run)) v) × (end ≡ at + length (entries_of format (writer_of v.known) (take (i + 1) run)))
+entries_on format v w x run i at next end note there e is f ends =
+    let by = writer_of v.known in
+    let same : w.known ≡ v.known = ap (λ (u : View). u.known) e in
+    let more = ap (λ (n : ℕ). entries_of format by (take n run)) (let next : i + 1 ≡ suc i = omega arith in next) ∙ entries_more format by run i note there in
+    let all = ap length more ∙ length-append (entries_of format by (take i run)) (entry_of format by note) in
+    let size = ap (λ (k : Known). length (entry_of format (writer_of k) note)) same in (
+      stored_on v w x (entries_of format by (take i run)) (entry_of format by note) e (f ∙ ap (λ (k : Known). stored_more (entry_of format (writer_of k) note) w) same) ∙ ap (λ cells. stored_more cells v) (sym more),
+      omega (arith, is, ends, all, size),
+    )
+
+-- where the next entry of a run lies, or what is behind the run
+pub entries_end : (format : Format) (v w : View) (notes : List Note) (at next : ℕ) → w ≡ stored_more (entries_of format (writer_of v.known) notes) v → next ≡ at + length (entries_of format (writer_of v.known) notes) → at ≡ length (stored_by v)
+    → next ≡ length (stored_by w)
+entries_end format v w notes at next e is begins = let long = stored_long v w (entries_of format (writer_of v.known) notes) e in omega (arith, is, begins, long)
+
+-- a batch is stored once its entries are, where it has no filler
+pub batch_stored : (format : Format) (v w : View) (notes : List Note) (batch : Batch) (i : ℕ) → w ≡ stored_more (entries_of format (writer_of v.known) (take i (take batch.fits notes))) v → length (take batch.fits notes) ≤ i → batch.filler ≡ 0
+    → w ≡ stored_more (batch_cells format (writer_of v.known) notes batch) v
+batch_stored format v w notes batch i e past none =
+    let by = writer_of v.known in
+    let run = take batch.fits notes in
+    let filler : ℕ → List (Option ℕ) = λ n. filled_cells (filler format n by.xid by.pid) in
+    e ∙ ap (λ l. stored_more (entries_of format by l) v) (take_all i run past) ∙ ap (λ cells. stored_more cells v) (sym (append-nil (entries_of format by run)))
+    ∙ ap (λ n. stored_more (entries_of format by run ++ cond (n == 0) [] (filler n)) v) (sym none)
+
+-- and else once its filler is
+pub batch_filled : (format : Format) (v w x : View) (notes : List Note) (batch : Batch) (i xid : ℕ) → w ≡ stored_more (entries_of format (writer_of v.known) (take i (take batch.fits notes))) v → length (take batch.fits notes) ≤ i → 0 < batch.filler
+    → xid ≡ next_xid v.known.seen → x ≡ stored_more (filled_cells (filler format batch.filler xid (PID_BASE + w.known.session))) w → x ≡ stored_more (batch_cells format (writer_of v.known) notes batch) v
+batch_filled format v w x notes batch i xid e past some number f =
+    let by = writer_of v.known in
+    let run = take batch.fits notes in
+    let filler : ℕ → ℕ → List (Option ℕ) = λ n session. filled_cells (filler format batch.filler n (PID_BASE + session)) in
+    let none : batch.filler == 0 ≡ false = grind (arith, nat_tests, some) in
+    stored_on v w x (entries_of format by (take i run)) (filler xid w.known.session) e f ∙ ap (λ l. stored_more (entries_of format by l ++ filler xid w.known.session) v) (take_all i run past)
+    ∙ ap (λ (u : View). stored_more (entries_of format by run ++ filler xid u.known.session) v) e ∙ ap (λ n. stored_more (entries_of format by run ++ filler n v.known.session) v) number
+    ∙ ap (λ b. stored_more (entries_of format by run ++ cond b [] (filler by.xid v.known.session)) v) (sym none)

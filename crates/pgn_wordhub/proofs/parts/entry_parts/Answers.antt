@@ -14,3 +14,8 @@ returns c note sender readable spelling =
       channel_is = ap (λ (n : Note). n.channel) read.same;
       payload_is = ap (λ (n : Note). n.payload) read.same;
     }
+
+pub unreachable-requires : goal.unreachable-requires
+unreachable-requires c =
+    let e = c.requires in
+    subst (λ (r : EntryView). IsReadAs c.args.format (AnEntry e.note e.sender) (told (Ok r))) c.in-Filler.is (c.read_piece.ensures (AnEntry e.note e.sender) e.readable e.spelling)

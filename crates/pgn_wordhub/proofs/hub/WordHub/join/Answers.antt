@@ -52,3 +52,12 @@ returns-clause-own c =
     c.requires.own.view c.mark_joining.ensures.view c.load_base-base.ensures.base c.store_valid.ensures.view c.begin_walk-point.ensures.begun c.show_head-head.ensures.shown
     (c.store_forward.ensures.view ∙ ap (forwarded c.come_to-at.result) c.come_to-at.ensures.view) refl in
     record { own = c.store_forward.ensures.own; view = done.0 }
+
+pub returns-clause-enlisted : goal.returns-clause-enlisted
+returns-clause-enlisted c =
+    let u = view_of c.show_head-head.new.pass in
+    let done = enlists (shape_of c.args.self.now.queue) (view_of c.args.pass.now) (view_of c.mark_joining.new.pass) (view_of c.load_base-base.new.pass) (view_of c.store_valid.new.pass) (view_of c.begin_walk-point.new.pass) u
+    (view_of c.store_forward.new.pass) c.load_base-base.result.0 c.load_base-base.result.1 c.begin_walk-point.result c.show_head-head.result c.come_to-at.result (record { base = c.load_base-base.result.0; point = c.begin_walk-point.result })
+    c.requires.own.view c.mark_joining.ensures.view c.load_base-base.ensures.base c.store_valid.ensures.view c.begin_walk-point.ensures.begun c.show_head-head.ensures.shown
+    (c.store_forward.ensures.view ∙ ap (forwarded c.come_to-at.result) c.come_to-at.ensures.view) refl in
+    done.1

@@ -1,13 +1,27 @@
-use Rattle.std.proofs.Common.{◌+◌, ◌^◌, ◌<◌, length, sym, ◌∙◌, subst, arith}
-use Rattle.std.proofs.lemmas.List.{length-set}
+use Rattle.std.proofs.Common.{◌≡◌, ℕ, ◌+◌, ◌^◌, ◌<◌, length, sym, ◌∙◌, subst, arith}
+use Rattle.std.proofs.lemmas.List.{length-set, length-take-le}
 use Rattle.pgn_journal.specs.Packing.{image}
 use Rattle.pgn_hub.specs.Shape.{Shape}
 use Rattle.pgn_words.specs.Passes.{view_of}
+use Rattle.pgn_wordhub.specs.Passes.{hub_shape}
+use Rattle.pgn_wordhub.specs.Looks.{HasSeenSecond}
+use Rattle.pgn_wordhub.proofs.OpenedLaws.{dbs_long}
 use Rattle.pgn_wordhub.proofs.LookLaws.{may_look_second, second_goes_on, kept_goes_on, first_stays}
 use Rattle.pgn_wordhub.proofs.hub.WordHub.look_second.Goals as goal
 
 pub look_settled-position-requires-clause-next : goal.look_settled-position-requires-clause-next
 look_settled-position-requires-clause-next g c = may_look_second (view_of c.args.pass.now) (view_of c.loop-seat.pass) c.loop-seat.seat c.loop-seat.floor.mark c.loop-seat.floor.at c.loop-seat.floor.holder c.loop-seat.invariant.1
+
+pub slice_bounds-first_needed-end : goal.slice_bounds-first_needed-end
+slice_bounds-first_needed-end g c =
+    let few = c.args.self.now.shaped.few_seats in
+    let same : c.len.result ≡ length (hub_shape c.args.self.now).seats = c.len.ensures ∙ dbs_long c.args.self.now in
+    sym (length-take-le (c.len.result + 1) c.loop-seat.places (let long = c.loop-seat.invariant.3 in omega (arith, few, long, same)))
+
+pub returns-clause-seen : goal.returns-clause-seen
+returns-clause-seen g c =
+    let f = c.loop-seat.floor in
+    subst (λ (n : ℕ). HasSeenSecond (view_of c.args.pass.now) (view_of c.loop-seat.pass) n f.mark f.at f.holder) (omega arith) c.loop-seat.invariant.1
 
 pub loop-seat-preserved : goal.loop-seat-preserved
 loop-seat-preserved g c =

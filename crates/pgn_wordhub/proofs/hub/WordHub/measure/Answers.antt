@@ -3,6 +3,7 @@ use Rattle.pgn_journal.specs.Journal.{next_xid}
 use Rattle.pgn_journal.specs.Packing.{page_of}
 use Rattle.pgn_hub.specs.Calls.{HasMeasured}
 use Rattle.pgn_words.specs.declared.view.View.{View}
+use Rattle.pgn_words.specs.Told.{head_known, stop_known}
 use Rattle.pgn_words.specs.Passes.{view_of}
 use Rattle.pgn_wordhub.specs.Passes.{hub_shape}
 use Rattle.pgn_wordhub.specs.Advancing.{advanced_view, HasAdvancedTo}
@@ -38,3 +39,11 @@ returns-clause-measured g c =
     let used : page_of head - page_of f.at ≡ c.page.result - c.page-2.result = omega (arith, first, second) in
     subst (λ (n : ℕ). HasMeasured z v.known u.known (record { at = at; occupied = n; limit = c.args.self.now.pages; floor_mark = f.mark; holder = f.holder })) used
     (subst (λ (n : ℕ). HasMeasured z v.known u.known (record { at = at; occupied = page_of head - page_of f.at; limit = n; floor_mark = f.mark; holder = f.holder })) (sym c.args.self.now.limited) done)
+
+pub returns-clause-view : goal.returns-clause-view
+returns-clause-view g c =
+    let v = view_of c.args.pass.now in
+    let u = view_of c.advance-floor.new.pass in
+    let e = c.advance-floor.ensures.view ∙ ap (advanced_view u) (loads v (view_of c.load_head-head.new.pass) (view_of c.load_stop-stop.new.pass) (view_of c.load_fin-at.new.pass) c.load_stop-stop.result c.load_fin-at.result
+    c.load_head-head.ensures.view c.load_stop-stop.ensures.view c.load_fin-at.ensures.heard) in
+    e ∙ ap (λ (n : ℕ). advanced_view u (stop_known n (head_known v))) (sym (ap (λ (y : View). y.loaded_stop) e))

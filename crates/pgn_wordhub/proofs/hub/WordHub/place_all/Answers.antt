@@ -1,4 +1,4 @@
-use Rattle.std.proofs.Common.{length, subst, sym, ap, ◌∙◌, arith}
+use Rattle.std.proofs.Common.{is_some, true≢false, length, subst, sym, ap, ◌∙◌, arith}
 use Rattle.std.proofs.lemmas.Option.{IfSome_then}
 use Rattle.pgn_journal.specs.Journal.{next_xid}
 use Rattle.pgn_journal.specs.Packing.{image}
@@ -70,3 +70,33 @@ batches-preserved g c =
 
 pub batches-init : goal.batches-init
 batches-init g c = (tt, tt, c.requires.own, nothing_written (view_of c.args.pass.now), c.requires.placing, c.requires.within, c.requires.stop)
+
+pub find_page-stop-requires-clause-own : goal.find_page-stop-requires-clause-own
+find_page-stop-requires-clause-own g c = c.batches.invariant.2
+
+pub find_page-stop-requires-clause-low : goal.find_page-stop-requires-clause-low
+find_page-stop-requires-clause-low g c = c.requires.low
+
+pub find_page-stop-requires-clause-stop : goal.find_page-stop-requires-clause-stop
+find_page-stop-requires-clause-stop g c = c.batches.invariant.6
+
+pub place_batch-requires-clause-own : goal.place_batch-requires-clause-own
+place_batch-requires-clause-own g c = c.find_page-stop.ensures.own
+
+pub place_batch-requires-clause-stop : goal.place_batch-requires-clause-stop
+place_batch-requires-clause-stop g c = c.find_page-stop.ensures.stop
+
+pub place_batch-requires-clause-left : goal.place_batch-requires-clause-left
+place_batch-requires-clause-left g c = let left = c.if-placing-tx.false in omega (arith, left)
+
+pub returns-then-is_some-clause-own : goal.returns-then-is_some-clause-own
+returns-then-is_some-clause-own g c = c.find_page-stop.ensures.own
+
+pub returns-then-is_some-clause-within : goal.returns-then-is_some-clause-within
+returns-then-is_some-clause-within g c = c.batches.invariant.5
+
+pub returns-then-is_some-clause-stop : goal.returns-then-is_some-clause-stop
+returns-then-is_some-clause-stop g c = c.find_page-stop.ensures.stop
+
+pub returns-then-is_some-clause-all : goal.returns-then-is_some-clause-all
+returns-then-is_some-clause-all g c none = absurd (true≢false (sym c.if-is_some.true ∙ c.is_some.ensures ∙ ap is_some none))

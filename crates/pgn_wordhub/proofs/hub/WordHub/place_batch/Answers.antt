@@ -1,10 +1,12 @@
-use Rattle.std.proofs.Common.{◌≡◌, ℕ, ◌-◌, List, length, take, drop, sym, ap, ◌∙◌, subst, arith}
+use Rattle.std.proofs.Common.{◌≡◌, ℕ, ◌-◌, List, length, take, drop, sym, refl, ap, ◌∙◌, subst, arith}
 use Rattle.std.proofs.lemmas.List.{take_all, length-drop}
 use Rattle.pgn_base.specs.declared.note.Note.{Note}
 use Rattle.pgn_layout.specs.Batches.{IsPlanned, batch_cells}
-use Rattle.pgn_wordhub.specs.Placing.{writer_of, stored_more}
+use Rattle.pgn_wordhub.specs.Placing.{writer_of, stored_more, placed_view}
 use Rattle.pgn_base.specs.declared.format.Format.{Format}
 use Rattle.pgn_hub.specs.Shape.{Shape}
+use Rattle.pgn_words.specs.declared.view.View.{View}
+use Rattle.pgn_words.specs.Told.{head_stored}
 use Rattle.pgn_words.specs.Passes.{view_of}
 use Rattle.pgn_wordhub.proofs.PlacingKept.{may_show, places_on}
 use Rattle.pgn_wordhub.proofs.hub.WordHub.place_batch.Goals as goal
@@ -46,3 +48,8 @@ returns-clause-placing c =
 
 pub write_batch-batch-requires-clause-begins : goal.write_batch-batch-requires-clause-begins
 write_batch-batch-requires-clause-begins c = c.requires.placing.end
+
+pub returns-clause-view : goal.returns-clause-view
+returns-clause-view c =
+    let is = c.store_head.ensures.view ∙ ap (head_stored c.write_batch-batch.result.next) c.write_batch-batch.ensures.view in
+    subst (λ (q : View). q ≡ placed_view q (view_of c.args.pass.now)) (sym is) refl

@@ -1,12 +1,15 @@
-use Rattle.std.proofs.Common.{◌≡◌, ℕ, ◌^◌, ◌<◌, ◌++◌, sym, ap, ◌∙◌, subst}
+use Rattle.std.proofs.Common.{◌≡◌, ℕ, ◌^◌, ◌<◌, ◌++◌, length, sym, ap, ◌∙◌, subst}
 use Rattle.pgn_base.specs.declared.format.Format.{Format}
 use Rattle.pgn_journal.specs.Due.{due}
+use Rattle.pgn_journal.specs.Journal.{next_xid}
 use Rattle.pgn_journal.specs.Packing.{place}
 use Rattle.pgn_hub.specs.Shape.{Shape}
 use Rattle.pgn_words.specs.declared.view.View.{View}
+use Rattle.pgn_words.specs.Listening.{forwarded}
 use Rattle.pgn_words.specs.Passes.{view_of, known_of, shape_of}
 use Rattle.pgn_wordhub.specs.Walks.{Walks, IsWalking, shown_cells}
 use Rattle.pgn_wordhub.proofs.ReadLaws.{reads_from, reads_low, has_read}
+use Rattle.pgn_wordhub.proofs.StayLaws.{read_stays, refused_stays}
 use Rattle.pgn_wordhub.proofs.ListenLaws.{listens, mark_of_listener}
 use Rattle.pgn_wordhub.proofs.hub.WordHub.read.Goals as goal
 
@@ -56,3 +59,29 @@ returns-in-Ok-clause-read c =
     c.args.set.now.channels c.args.out.now.items c.walk.new.out.items c.requires.own.view (mark_of_listener v c.requires.own.view.rest (listens v c.requires.own.view.rest c.requires.listens))
     c.begin_walk-fin.ensures.begun c.show_head-head.ensures.shown (c.store_forward.ensures.view ∙ ap (Rattle.pgn_words.specs.Listening.forwarded c.in-Ok.at) c.walk.ensures.view)
     (c.in-Ok.ensures.walked end owed walks).1
+
+pub returns-in-Ok-clause-own : goal.returns-in-Ok-clause-own
+returns-in-Ok-clause-own c =
+    let v = view_of c.args.pass.now in
+    let u = view_of c.show_head-head.new.pass in record {
+      own = c.store_forward.ensures.own;
+      view = read_stays (shape_of c.args.self.now.queue) v (view_of c.begin_walk-fin.new.pass) u (view_of c.store_forward.new.pass) c.begin_walk-fin.result c.show_head-head.result c.in-Ok.at c.args.set.now.channels c.args.out.now.items c.walk.new.out.items
+          c.requires.own.view (listens v c.requires.own.view.rest c.requires.listens) c.begin_walk-fin.ensures.begun c.show_head-head.ensures.shown (c.store_forward.ensures.view ∙ ap (forwarded c.in-Ok.at) c.walk.ensures.view) (returns-in-Ok-clause-read c);
+    }
+
+pub returns-in-Err-clause-own : goal.returns-in-Err-clause-own
+returns-in-Err-clause-own c = record {
+  own = c.walk.ensures.own;
+  view = refused_stays (shape_of c.args.self.now.queue) (view_of c.args.pass.now) (view_of c.begin_walk-fin.new.pass) (view_of c.show_head-head.new.pass) (view_of c.walk.new.pass) c.begin_walk-fin.result c.show_head-head.result
+      c.requires.own.view c.begin_walk-fin.ensures.begun c.show_head-head.ensures.shown c.walk.ensures.view;
+}
+
+pub store_forward-requires-clause-mark : goal.store_forward-requires-clause-mark
+store_forward-requires-clause-mark c =
+    sym (ap (λ (u : View). u.walk.upto) c.walk.ensures.view ∙ ap (λ (u : View). u.walk.upto) c.show_head-head.ensures.shown.view ∙ ap (λ (u : View). u.walk.upto) c.begin_walk-fin.ensures.begun.view)
+
+pub walk-requires-clause-fin : goal.walk-requires-clause-fin
+walk-requires-clause-fin c = c.begin_walk-fin.ensures.begun.number ∙ sym (ap (λ (u : View). next_xid u.known.seen) c.show_head-head.ensures.shown.view)
+
+pub walk-requires-clause-head : goal.walk-requires-clause-head
+walk-requires-clause-head c = c.show_head-head.ensures.shown.head ∙ sym (ap (λ (u : View). length (shown_cells u)) c.show_head-head.ensures.shown.view)

@@ -1,14 +1,29 @@
 use Rattle.std.proofs.Common.{rules, ◌≡◌, ◌+◌, ◌^◌, ◌<◌, length, sym, ◌∙◌, subst, arith}
 use Rattle.pgn_words.specs.declared.pos_word.PosWord.TheVariants as words
-use Rattle.std.proofs.lemmas.List.{length-set}
+use Rattle.std.proofs.lemmas.List.{length-set, length-take-le}
 use Rattle.pgn_journal.specs.Packing.{image}
 use Rattle.pgn_hub.specs.Shape.{Shape}
 use Rattle.pgn_words.specs.Passes.{view_of}
+use Rattle.pgn_wordhub.specs.Passes.{hub_shape}
+use Rattle.pgn_wordhub.proofs.OpenedLaws.{dbs_long}
+use Rattle.pgn_wordhub.proofs.AdvanceSteps.{gives_up}
 use Rattle.pgn_wordhub.proofs.LookLaws.{may_look_second, second_goes_on, kept_goes_on, first_stays}
 use Rattle.pgn_wordhub.proofs.hub.WordHub.try_second.Goals as goal
 
 pub second_look-position-requires-clause-next : goal.second_look-position-requires-clause-next
 second_look-position-requires-clause-next c = may_look_second (view_of c.args.pass.now) (view_of c.loop-seat.pass) c.loop-seat.seat c.loop-seat.floor.mark c.loop-seat.floor.at c.loop-seat.floor.holder c.loop-seat.invariant.1
+
+pub slice_bounds-first_needed-end : goal.slice_bounds-first_needed-end
+slice_bounds-first_needed-end c =
+    let few = c.args.self.now.shaped.few_seats in
+    let same : c.len.result ≡ length (hub_shape c.args.self.now).seats = c.len.ensures ∙ dbs_long c.args.self.now in
+    sym (length-take-le (c.len.result + 1) c.loop-seat.places (let long = c.loop-seat.invariant.3 in omega (arith, few, long, same)))
+
+pub returns-then-eq-clause-some_seen : goal.returns-then-eq-clause-some_seen
+returns-then-eq-clause-some_seen c =
+    let f = c.loop-seat.floor in
+    let joins : c.second_look-position.result ≡ words.Joining = search rules in
+    gives_up (view_of c.args.pass.now) (view_of c.loop-seat.pass) (view_of c.second_look-position.new.pass) c.loop-seat.seat f.mark f.at f.holder c.second_look-position.result c.loop-seat.invariant.1 c.second_look-position.ensures.looked joins
 
 pub loop-seat-preserved : goal.loop-seat-preserved
 loop-seat-preserved c =

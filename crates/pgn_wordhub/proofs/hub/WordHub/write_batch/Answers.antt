@@ -1,13 +1,14 @@
-use Rattle.std.proofs.Common.{◌≡◌, ◌+◌, ◌/◌, List, length, take, refl, ap, arith}
+use Rattle.std.proofs.Common.{◌≡◌, ◌+◌, ◌/◌, List, length, take, refl, sym, ap, ◌∙◌, arith}
 use Rattle.std.proofs.lemmas.List.{take_all}
 use Rattle.std.proofs.lemmas.Option.{slice_get_read}
 use Rattle.pgn_base.specs.declared.note.Note.{Note}
+use Rattle.pgn_journal.specs.Journal.{next_xid}
 use Rattle.pgn_words.specs.declared.view.View.{View}
 use Rattle.pgn_words.specs.Passes.{view_of, known_of}
 use Rattle.pgn_wordhub.specs.Passes.{hub_shape}
 use Rattle.pgn_wordhub.specs.Placing.{writer_of}
 use Rattle.pgn_layout.specs.Batches.{entries_of}
-use Rattle.pgn_wordhub.proofs.StoringLaws.{entry_long, entries_within, filler_within}
+use Rattle.pgn_wordhub.proofs.StoringLaws.{entry_long, entries_within, filler_within, entries_on, entries_end, batch_stored, batch_filled}
 use Rattle.pgn_wordhub.proofs.hub.WordHub.write_batch.Goals as goal
 
 pub write_note-next-requires-clause-pages : goal.write_note-next-requires-clause-pages
@@ -87,3 +88,44 @@ write_filler-requires-clause-stays c =
     let at = c.loop-note.invariant.2 in
     let begins = c.requires.begins in
     let cells : length (view_of c.loop-note.pass).pen.cells ≡ length v.pen.cells = ap (λ (u : View). length u.pen.cells) c.loop-note.invariant.1 in omega (arith, within, size, at, begins, cells)
+
+pub loop-note-preserved : goal.loop-note-preserved
+loop-note-preserved c =
+    let inv = c.loop-note.invariant in
+    let run = take c.plan_batch-batch.result.fits c.args.notes.now in
+    let there = slice_get_read run (length run) c.loop-note.note-index c.note-item.result refl c.loop-note-test.true c.note-item.is in
+    let more = entries_on c.args.self.now.format (view_of c.args.pass.now) (view_of c.loop-note.pass) (view_of c.write_note-next.new.pass) run c.loop-note.note-index c.args.at c.loop-note.next c.write_note-next.result c.note-item.result
+    there inv.1 inv.2 c.write_note-next.ensures.view c.write_note-next.ensures.end in
+    (c.write_note-next.ensures.own, more.0, more.1)
+
+pub write_note-next-requires-clause-next : goal.write_note-next-requires-clause-next
+write_note-next-requires-clause-next c =
+    entries_end c.args.self.now.format (view_of c.args.pass.now) (view_of c.loop-note.pass) (take c.loop-note.note-index (take c.plan_batch-batch.result.fits c.args.notes.now)) c.args.at c.loop-note.next
+    c.loop-note.invariant.1 c.loop-note.invariant.2 c.requires.next
+
+pub write_note-next-requires-clause-xid : goal.write_note-next-requires-clause-xid
+write_note-next-requires-clause-xid c = c.requires.xid ∙ sym (ap (λ (u : View). next_xid u.known.seen) c.loop-note.invariant.1)
+
+pub write_filler-requires-clause-next : goal.write_filler-requires-clause-next
+write_filler-requires-clause-next c =
+    entries_end c.args.self.now.format (view_of c.args.pass.now) (view_of c.loop-note.pass) (take c.loop-note.note-index (take c.plan_batch-batch.result.fits c.args.notes.now)) c.args.at c.loop-note.next
+    c.loop-note.invariant.1 c.loop-note.invariant.2 c.requires.next
+
+pub returns-then-batch-gt0-clause-own : goal.returns-then-batch-gt0-clause-own
+returns-then-batch-gt0-clause-own c = c.write_filler.ensures.own
+
+pub returns-then-batch-gt0-clause-planned : goal.returns-then-batch-gt0-clause-planned
+returns-then-batch-gt0-clause-planned c = c.plan_batch-batch.ensures.planned
+
+pub returns-then-batch-gt0-clause-view : goal.returns-then-batch-gt0-clause-view
+returns-then-batch-gt0-clause-view c =
+    let some = c.if-batch-gt0.true in
+    let test = c.loop-note-test.false in
+    batch_filled c.args.self.now.format (view_of c.args.pass.now) (view_of c.loop-note.pass) (view_of c.write_filler.new.pass) c.args.notes.now c.plan_batch-batch.result c.loop-note.note-index c.args.xid
+    c.loop-note.invariant.1 (omega (arith, test)) (omega (arith, some)) c.requires.xid c.write_filler.ensures.view
+
+pub returns-else-batch-gt0-clause-view : goal.returns-else-batch-gt0-clause-view
+returns-else-batch-gt0-clause-view c =
+    let none = c.if-batch-gt0.false in
+    let test = c.loop-note-test.false in
+    batch_stored c.args.self.now.format (view_of c.args.pass.now) (view_of c.loop-note.pass) c.args.notes.now c.plan_batch-batch.result c.loop-note.note-index c.loop-note.invariant.1 (omega (arith, test)) (omega (arith, none))

@@ -1,4 +1,6 @@
-use Rattle.std.proofs.Common.{◌≡◌, ℕ, ◌+◌, ◌*◌, ◌%◌, ◌≤◌, ◌++◌, cond, Bool, Some, slice_get, drop, refl, ap, ◌∙◌, subst, arith, add-zero, zero-add}
+use Rattle.std.proofs.Common.{◌≡◌, ℕ, ◌+◌, ◌*◌, ◌%◌, ◌≤◌, ◌++◌, List, cond, Bool, Some, slice_get, drop, refl, ap, ◌∙◌, subst, arith, add-zero, zero-add}
+use Rattle.std.proofs.lemmas.List.{drop_all}
+use Rattle.pgn_base.specs.Interest.{channel_bit}
 use Rattle.pgn_journal.specs.Bytes.{header_bytes, four_bytes}
 use Rattle.pgn_journal.specs.Packing.{cells_in}
 use Rattle.pgn_journal.specs.Pieces.{AnEntry, piece_bytes}
@@ -65,3 +67,11 @@ loop-k-preserved c =
           goes_with c.loop-k.sum (sum_to_zero (drop (4 * k) bytes)) c.sum_of_cell-more.result.0 (sum_to_zero rest) _ (inv.4 note sender stands long) (left ∙ more),
       omega arith,
     )
+
+pub returns-clause-bit : goal.returns-clause-bit
+returns-clause-bit c note sender stands long =
+    let inv = c.loop-k.invariant in
+    let test = c.loop-k-test.false in
+    let none = drop_all (4 * c.loop-k.k) (piece_bytes c.args.self.now.format (AnEntry note sender)) (omega (arith, test, long)) in
+    let is = subst (λ (bytes : List ℕ). (c.loop-k.sum + sum_to_zero bytes) % 64 ≡ channel_bit note.channel) none (inv.4 note sender stands long) in
+    let low = inv.5 in omega (arith, is, low)

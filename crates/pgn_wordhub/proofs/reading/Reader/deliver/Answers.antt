@@ -1,4 +1,8 @@
-use Rattle.std.proofs.Common.{arith}
+use Rattle.std.proofs.Common.{ℕ, List, sym, ◌∙◌, subst, arith}
+use Rattle.pgn_base.specs.Texts.{IsName, IsPayload}
+use Rattle.pgn_journal.specs.Pieces.{committed_by}
+use Rattle.pgn_words.specs.Passes.{known_of}
+use Rattle.pgn_wordhub.proofs.ReadingLaws.{not_due}
 use Rattle.pgn_wordhub.proofs.reading.Reader.deliver.Goals as goal
 
 pub entry_parts-parts-requires : goal.entry_parts-parts-requires
@@ -15,3 +19,21 @@ is_due-requires-clause-below c =
     let e = c.requires.entry in
     let p = c.entry_parts-parts.ensures e.note e.sender e.due.readable e.due.spelling in
     let high = e.due.numbered.high in let x = p.xid_is in let same = c.new-xid.ensures in omega (arith, high, x, same)
+
+pub delivery_of-requires-clause-channel : goal.delivery_of-requires-clause-channel
+delivery_of-requires-clause-channel c =
+    let e = c.requires.entry in
+    let p = c.entry_parts-parts.ensures e.note e.sender e.due.readable e.due.spelling in
+    subst (λ (bytes : List ℕ). IsName bytes) (sym p.channel_is) e.due.readable.content.0.name
+
+pub delivery_of-requires-clause-payload : goal.delivery_of-requires-clause-payload
+delivery_of-requires-clause-payload c =
+    let e = c.requires.entry in
+    let p = c.entry_parts-parts.ensures e.note e.sender e.due.readable e.due.spelling in
+    subst (λ (bytes : List ℕ). IsPayload bytes) (sym p.payload_is) e.due.readable.content.0.text
+
+pub returns-else-is_due-clause-delivered : goal.returns-else-is_due-clause-delivered
+returns-else-is_due-clause-delivered c note sender e =
+    let p = c.entry_parts-parts.ensures note sender e.readable e.spelling in
+    not_due (known_of c.args.pass.now).db c.args.self.now.set.now.channels (committed_by (known_of c.args.pass.now).seen) c.args.out.now.items note sender c.is_due.result c.entry_parts-parts.result.channel.now c.new-xid.result
+    e.of_db c.is_due.ensures.due p.channel_is (c.new-xid.ensures ∙ p.xid_is) c.if-is_due.false

@@ -10,6 +10,7 @@ use Rattle.pgn_hub.specs.Calls.{HasMeasured}
 use Rattle.pgn_words.specs.declared.view.View.{View}
 use Rattle.pgn_words.specs.Passes.{view_of}
 use Rattle.pgn_wordhub.specs.Passes.{hub_shape}
+use Rattle.pgn_wordhub.proofs.StayLaws.{measured_stays}
 use Rattle.pgn_wordhub.proofs.serving.WordHubHub.usage.Goals as goal
 
 -- measured from what was known before the lock was taken
@@ -38,3 +39,10 @@ returns-clause-used g c =
     let same : (view_of c.drop_lock.new.pass).known ≡ m.known = ap (λ (y : View). y.known) c.drop_lock.ensures.view ∙ ap (λ o. record m.known { told = unwrap_or o m.known.told; signalled = unwrap_or o m.known.signalled }) ended in
     subst (λ (x : Known). HasMeasured z v.known x c.measure-usage.result) (sym same)
     (measured_from z v.known l.known m.known locked.more c.measure-usage.result (ap (λ (y : View). y.known) locked.view) c.measure-usage.ensures.measured)
+
+pub returns-clause-own : goal.returns-clause-own
+returns-clause-own g c = record {
+  own = c.drop_lock.ensures.own;
+  view = measured_stays (hub_shape c.args.self.now) (view_of c.args.pass.now) (view_of c.lock.new.pass) (view_of c.measure-usage.new.pass) (view_of c.drop_lock.new.pass) _ c.measure-usage.result
+      c.requires.own.view c.lock.ensures.locked c.measure-usage.ensures.view c.drop_lock.ensures.view (returns-clause-used g c);
+}

@@ -1,0 +1,126 @@
+-- A writer that decides on the seats that a mask names, seat by seat and word by word, and that loads interests seat by seat.
+use Rattle.std.proofs.Common.{◌≡◌, ◌≢◌, ℕ, zero, suc, ◌+◌, ◌*◌, ◌/◌, ◌%◌, ◌==◌, ◌<◌, ◌≤◌, min, Bool, true, false, cond, List, [], ◌∷◌, length, replicate, set, get_or, inl, inr, refl, sym, ap, ◌∙◌, subst, arith}
+use Rattle.std.proofs.lemmas.Bool.{cases_lt, cases_eq}
+use Rattle.std.proofs.lemmas.List.{length-set, get_or-set_same, get_or-set_other, get_or_past, get_or-replicate}
+use Rattle.std.proofs.lemmas.List.Elements.{All-from_get_or}
+use Rattle.std.proofs.lemmas.Nat.Bits.{bit_at-zero}
+use Rattle.std.specs.Int.{bit_at}
+use Rattle.pgn_journal.specs.Journal.{is_committed}
+use Rattle.pgn_words.specs.declared.view.View.{View}
+use Rattle.pgn_words.specs.declared.view.Verdict.{Verdict}
+use Rattle.pgn_words.specs.declared.view.Verdict.TheVariants.{Decided}
+use Rattle.pgn_words.specs.Views.{AreDecided, seat_of}
+use Rattle.pgn_words.specs.Waking.{verdict_of, wake_set, is_concerned, concerned_db}
+use Rattle.pgn_wordhub.specs.Wakes.{decided_as, deemed_as, NamesFrom}
+
+-- the seats from one on, up to another, are decided; of the others it is known what was known
+pub record HasDecided (was now : List Verdict) (from to : ℕ) : Type 0 where
+  pub long : length now ≡ length was
+  pub decided : (i : ℕ) → from ≤ i → i < to → get_or now i Decided ≡ Decided
+  pub before : (i : ℕ) → i < from → get_or now i Decided ≡ get_or was i Decided
+  pub behind : (i : ℕ) → to ≤ i → get_or now i Decided ≡ get_or was i Decided
+
+-- no seat is decided yet
+pub decides_none : (vs : List Verdict) (from to : ℕ) → from ≡ to → HasDecided vs vs from to
+decides_none vs from to same = record { long = refl; decided = λ i low high. absurd (omega (arith, low, high, same)); before = λ i below. refl; behind = λ i above. refl }
+
+set_there : (vs : List Verdict) (seat : ℕ) → get_or (set vs seat Decided) seat Decided ≡ Decided
+set_there [] seat = refl
+set_there (v ∷ vs) zero = refl
+set_there (v ∷ vs) (suc seat) = set_there vs seat
+
+-- a wake that is set decides on its seat
+pub decides_one : (vs : List Verdict) (seat : ℕ) → HasDecided vs (set vs seat Decided) seat (seat + 1)
+decides_one vs seat = record {
+  long = length-set vs seat Decided;
+  decided = λ i low high. ap (λ (n : ℕ). get_or (set vs seat Decided) n Decided) (let same : i ≡ seat = omega (arith, low, high) in same) ∙ set_there vs seat;
+  before = λ i below. get_or-set_other vs seat i Decided Decided (λ same. omega (arith, below, same));
+  behind = λ i above. get_or-set_other vs seat i Decided Decided (λ same. omega (arith, above, same));
+}
+
+-- what is decided stays so as the next seats are decided
+pub decides_on : (was mid now : List Verdict) (from at to : ℕ) → from ≤ at → at ≤ to → HasDecided was mid from at → HasDecided mid now at to → HasDecided was now from to
+decides_on was mid now from at to first second h k = record {
+  long = k.long ∙ h.long;
+  decided = λ i low high. elim (cases_lt i at) [
+    | inl below ↦ k.before i below ∙ h.decided i low below
+    | inr above ↦ k.decided i above high
+  ];
+  before = λ i below. k.before i (omega (arith, below, first)) ∙ h.before i below;
+  behind = λ i above. k.behind i above ∙ h.behind i (omega (arith, above, second));
+}
+
+-- past the last seat all are decided
+pub decides_rest : (was now : List Verdict) (from at to : ℕ) → HasDecided was now from at → length was ≤ at → at ≤ to → HasDecided was now from to
+decides_rest was now from at to h past further =
+    let long = h.long in record {
+      long = h.long;
+      decided = λ i low high. elim (cases_lt i at) [
+        | inl below ↦ h.decided i low below
+        | inr above ↦ get_or_past now i Decided (omega (arith, long, past, above))
+      ];
+      before = h.before;
+      behind = λ i above. h.behind i (omega (arith, above, further));
+    }
+
+-- the seats of a word are decided, which are fewer where it is the last one
+pub decides_word : (was now : List Verdict) (word seat seats : ℕ) → HasDecided was now (64 * word) seat → length was ≡ seats → min seats (64 * word + 64) ≤ seat → seat ≤ 64 * word + 64 → HasDecided was now (64 * word) (64 * (word + 1))
+decides_word was now word seat seats h long end within = elim (cases_lt seat (64 * (word + 1))) [
+  | inl below ↦ decides_rest was now (64 * word) seat (64 * (word + 1)) h (omega (arith, long, end, below)) (omega (arith, below))
+  | inr above ↦ subst (λ (n : ℕ). HasDecided was now (64 * word) n) (let same : seat ≡ 64 * (word + 1) = omega (arith, above, within) in same) h
+]
+
+-- once its wake is set, one seat more is decided
+pub wake_decides : (v w x : View) (from seat : ℕ) → from ≤ seat → x ≡ wake_set seat w → w ≡ decided_as w.verdicts v → HasDecided v.verdicts w.verdicts from seat
+    → (x ≡ decided_as x.verdicts v) × HasDecided v.verdicts x.verdicts from (seat + 1)
+wake_decides v w x from seat low is view h =
+    let verdicts : x.verdicts ≡ set w.verdicts seat Decided = ap (λ (u : View). u.verdicts) is in (
+      is ∙ ap (wake_set seat) view ∙ ap (λ (vs : List Verdict). decided_as vs v) (sym verdicts),
+      subst (λ (vs : List Verdict). HasDecided v.verdicts vs from (seat + 1)) (sym verdicts)
+          (decides_on v.verdicts w.verdicts (set w.verdicts seat Decided) from seat (seat + 1) low (omega arith) h (decides_one w.verdicts seat)),
+    )
+
+-- all seats are decided
+pub all_decided : (was now : List Verdict) (to : ℕ) → HasDecided was now 0 to → length was ≤ to → AreDecided now
+all_decided was now to h past =
+    let long = h.long in All-from_get_or (λ (verdict : Verdict). verdict ≡ Decided) now Decided (λ i below. h.decided i (omega arith) (omega (arith, below, long, past)))
+
+-- a word of the mask that is zero names no seat, and these need no wake
+pub none_named : (mask : List ℕ) (vs : List Verdict) (word : ℕ) → get_or mask word 0 ≡ 0 → NamesFrom mask vs (64 * word) → HasDecided vs vs (64 * word) (64 * (word + 1))
+none_named mask vs word none named = record {
+  long = refl;
+  decided = λ i low high. named i low
+      ∙ ap (λ (n : ℕ). verdict_of (bit_at (get_or mask n 0) (i % 64) == 1)) (let there : i / 64 ≡ word = omega (arith, low, high) in there)
+      ∙ ap (λ (n : ℕ). verdict_of (bit_at n (i % 64) == 1)) none
+      ∙ ap (λ (n : ℕ). verdict_of (n == 1)) (bit_at-zero (i % 64));
+  before = λ i below. refl;
+  behind = λ i above. refl;
+}
+
+-- which seats the loaded interests concern, of the seats before one; those from it on were not loaded
+pub record HasLoaded (v : View) (owns : List ℕ) (seat : ℕ) : Type 0 where
+  pub tested : (i : ℕ) → i < seat → get_or owns i 0 ≡ concerned_db v i
+  pub left : (i : ℕ) → seat ≤ i → i < length owns → is_concerned v i ≡ true
+
+-- none is loaded yet
+pub none_loaded : (v : View) (owns : List ℕ) (n : ℕ) → v.concerned ≡ replicate n true → length owns ≡ n → HasLoaded v owns 0
+none_loaded v owns n all long = record {
+  tested = λ i below. absurd (omega (arith, below));
+  left = λ i above short. ap (λ (bs : List Bool). get_or bs i false) all ∙ get_or-replicate n i true false (omega (arith, short, long));
+}
+
+-- by which database a listener is tested stays where it is known of it what was known
+pub tested_still : (v w : View) (i : ℕ) → w ≡ deemed_as w.concerned v → is_concerned w i ≡ is_concerned v i → concerned_db w i ≡ concerned_db v i
+tested_still v w i is same =
+    ap (λ (u : View). concerned_db u i) is ∙ ap (λ b. cond (is_committed v.pen.ending.fate) (cond b (seat_of v.setup (i + 1)).db 0) v.known.db) same
+
+-- one seat more is loaded
+pub loads_on : (v w : View) (owns : List ℕ) (seat own : ℕ) → HasLoaded v owns seat → seat < length owns → w ≡ deemed_as w.concerned v → ((i : ℕ) → i ≢ seat → is_concerned w i ≡ is_concerned v i) → own ≡ concerned_db w seat
+    → HasLoaded w (set owns seat own) (seat + 1)
+loads_on v w owns seat own h within is others database = record {
+  tested = λ i below. elim (cases_eq i seat) [
+    | inl same ↦ ap (λ (n : ℕ). get_or (set owns seat own) n 0) same ∙ get_or-set_same owns seat own 0 within ∙ database ∙ ap (concerned_db w) (sym same)
+    | inr other ↦ get_or-set_other owns seat i own 0 other ∙ h.tested i (omega (arith, below, other)) ∙ sym (tested_still v w i is (others i other))
+  ];
+  left = λ i above short. others i (λ same. omega (arith, above, same)) ∙ h.left i (omega (arith, above)) (let long = length-set owns seat own in omega (arith, short, long));
+}
