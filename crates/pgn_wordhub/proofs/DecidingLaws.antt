@@ -1,10 +1,15 @@
 -- A writer that decides on the seats that a mask names, seat by seat and word by word, and that loads interests seat by seat.
-use Rattle.std.proofs.Common.{◌≡◌, ◌≢◌, ℕ, zero, suc, ◌+◌, ◌*◌, ◌/◌, ◌%◌, ◌==◌, ◌<◌, ◌≤◌, min, Bool, true, false, cond, List, [], ◌∷◌, length, replicate, set, get_or, inl, inr, refl, sym, ap, ◌∙◌, subst, arith}
-use Rattle.std.proofs.lemmas.Bool.{cases_lt, cases_eq}
+use Rattle.std.proofs.Common.{◌≡◌, ◌≢◌, ℕ, zero, suc, ◌+◌, ◌*◌, ◌/◌, ◌%◌, ◌==◌, ◌<◌, ◌≤◌, min, Bool, true, false, not, cond, List, [], ◌∷◌, length, replicate, set, get_or, inl, inr, refl, sym, ap, ◌∙◌, subst, arith}
+use Rattle.std.proofs.lemmas.Bool.{cases_lt, cases_eq, ne_eqb}
 use Rattle.std.proofs.lemmas.List.{length-set, get_or-set_same, get_or-set_other, get_or_past, get_or-replicate}
 use Rattle.std.proofs.lemmas.List.Elements.{All-from_get_or}
 use Rattle.std.proofs.lemmas.Nat.Bits.{bit_at-zero}
 use Rattle.std.specs.Int.{bit_at}
+use Rattle.std.specs.Int.RustNames.{bit_and}
+use Rattle.pgn_base.specs.Interest.{interest}
+use Rattle.pgn_journal.specs.Interest.{channels_of, meets}
+use Rattle.pgn_hub.specs.Shape.{Shape}
+use Rattle.pgn_words.specs.Interests.{interest_loaded}
 use Rattle.pgn_journal.specs.Journal.{is_committed}
 use Rattle.pgn_words.specs.declared.view.View.{View}
 use Rattle.pgn_words.specs.declared.view.Verdict.{Verdict}
@@ -124,3 +129,31 @@ loads_on v w owns seat own h within is others database = record {
   ];
   left = λ i above short. others i (λ same. omega (arith, above, same)) ∙ h.left i (omega (arith, above)) (let long = length-set owns seat own in omega (arith, short, long));
 }
+
+-- what the pass knows of a seat once it has loaded its interest
+pub loaded_as : (v w : View) (seat n : ℕ) → w ≡ interest_loaded seat n v → w ≡ deemed_as w.concerned v
+loaded_as v w seat n is = is ∙ ap (λ (bs : List Bool). deemed_as bs v) (sym (ap (λ (u : View). u.concerned) is))
+
+set_got : (bs : List Bool) (seat : ℕ) (b : Bool) → get_or bs seat false ≡ true → get_or (set bs seat b) seat false ≡ b
+set_got [] seat b may = absurd (cc)
+set_got (x ∷ bs) zero b may = refl
+set_got (x ∷ bs) (suc seat) b may = set_got bs seat b may
+
+-- and by which database its listener is tested then
+tested_as : (z : Shape) (v w : View) (seat n sent : ℕ) (b : Bool) → w ≡ interest_loaded seat n v → v.setup ≡ z → is_committed v.pen.ending.fate ≡ true → is_concerned v seat ≡ true → sent ≡ interest (channels_of v.pen.ending.notes)
+    → meets n sent ≡ b → concerned_db w seat ≡ cond b (seat_of z (seat + 1)).db 0
+tested_as z v w seat n sent b is setup committed may sent_is meeting =
+    let W : View = interest_loaded seat n v in
+    let own : ℕ = (seat_of v.setup (seat + 1)).db in
+    ap (λ (u : View). concerned_db u seat) is ∙ ap (λ d. cond d (cond (is_concerned W seat) own 0) v.known.db) committed
+    ∙ ap (λ d. cond d own 0) (set_got v.concerned seat (meets n (interest (channels_of v.pen.ending.notes))) may ∙ ap (meets n) (sym sent_is) ∙ meeting)
+    ∙ ap (λ (y : Shape). cond b (seat_of y (seat + 1)).db 0) setup
+
+pub tested_by_none : (z : Shape) (v w : View) (seat n sent : ℕ) → w ≡ interest_loaded seat n v → v.setup ≡ z → is_committed v.pen.ending.fate ≡ true → is_concerned v seat ≡ true → sent ≡ interest (channels_of v.pen.ending.notes)
+    → bit_and n sent ≡ 0 → 0 ≡ concerned_db w seat
+tested_by_none z v w seat n sent is setup committed may sent_is apart = sym (tested_as z v w seat n sent false is setup committed may sent_is (ap (λ m. not (m == 0)) apart))
+
+pub tested_by_own : (z : Shape) (v w : View) (seat n sent own : ℕ) → w ≡ interest_loaded seat n v → v.setup ≡ z → is_committed v.pen.ending.fate ≡ true → is_concerned v seat ≡ true → sent ≡ interest (channels_of v.pen.ending.notes)
+    → bit_and n sent ≢ 0 → own ≡ (seat_of z (seat + 1)).db → own ≡ concerned_db w seat
+tested_by_own z v w seat n sent own is setup committed may sent_is common own_is =
+    own_is ∙ sym (tested_as z v w seat n sent true is setup committed may sent_is (ap not (ne_eqb (bit_and n sent) 0 common)))

@@ -1,5 +1,5 @@
 -- A pass that was one of the hub's between two calls is so after the next one.
-use Rattle.std.proofs.Common.{◌≡◌, ℕ, ◌+◌, ◌-◌, ◌≤◌, Bool, true, false, ◌||◌, max, List, [], ◌∷◌, ◌++◌, slice_get, Option, Some, None, IsSomeAnd, refl, sym, ap, ◌∙◌, subst}
+use Rattle.std.proofs.Common.{◌≡◌, ℕ, ◌+◌, ◌-◌, ◌≤◌, Bool, true, false, ◌||◌, cond, max, List, [], ◌∷◌, ◌++◌, slice_get, Option, Some, None, IsSomeAnd, refl, sym, ap, ◌∙◌, subst}
 use Rattle.std.proofs.lemmas.List.{append-nil}
 use Rattle.pgn_base.specs.declared.note.Delivery.{Delivery}
 use Rattle.pgn_base.specs.declared.queue_answers.Usage.{Usage}
@@ -15,11 +15,12 @@ use Rattle.pgn_words.specs.declared.view.Post.{Post}
 use Rattle.pgn_words.specs.declared.view.Walk.{Walk}
 use Rattle.pgn_words.specs.declared.view.Listen.TheVariants.{Registered}
 use Rattle.pgn_words.specs.declared.view.Stage.TheVariants.{Still, Begun, Shown}
-use Rattle.pgn_words.specs.Views.{is_settled}
+use Rattle.pgn_words.specs.declared.view.Phase.{Phase}
+use Rattle.pgn_words.specs.Views.{is_settled, holds_lock}
 use Rattle.pgn_words.specs.Positions.{marked, shown_as, listens_at}
 use Rattle.pgn_words.specs.Listening.{HasBegun, HasShown, forwarded}
 use Rattle.pgn_words.specs.Waking.{HasTaken, HasLooked, raised}
-use Rattle.pgn_words.specs.Told.{HasLocked, locked, head_known, stop_known, freed}
+use Rattle.pgn_words.specs.Told.{HasHeard, HasLocked, locked, noted, joined, head_known, stop_known, freed}
 use Rattle.pgn_wordhub.specs.Advancing.{advanced_view}
 use Rattle.pgn_wordhub.specs.Passes.{IsHubView}
 
@@ -99,13 +100,16 @@ measured_stays z v l m w stop usage h lock view free measured =
     }
 
 -- a read that was refused
-pub refused_stays : (z : Shape) (v w u x : View) (n h : ℕ) → IsHubView z v → HasBegun v n w → HasShown w h u → x ≡ u → IsHubView z x
+pub refused_stays : (z : Shape) (v w u x : View) (n h : ℕ) → IsHubView z v → HasBegun v n w → HasShown w h u → x ≡ u → IsHubView z x × calls.HasLearned v.known x.known
 refused_stays z v w u x n h hub begun shown same =
     let K : Known = record v.known { seen = v.known.seen ++ begun.more } in
     let W : View = record v { known = K; walk = record v.walk { stage = Begun; upto = n } } in
     let is : x ≡ record W { walk = record W.walk { stage = Shown; shown = shown.shown } } =
     same ∙ shown.view ∙ ap (λ (y : View). let q : View = record y { walk = record y.walk { stage = Shown; shown = shown.shown } } in q) begun.view in
-    stays z v x K (record W.walk { stage = Shown; shown = shown.shown }) is hub (calls-keep_within.learned v.known K (record { more = begun.more; known = refl }) hub.within) refl refl refl refl
+    (
+      stays z v x K (record W.walk { stage = Shown; shown = shown.shown }) is hub (calls-keep_within.learned v.known K (record { more = begun.more; known = refl }) hub.within) refl refl refl refl,
+      record { more = begun.more; known = ap (λ (y : View). y.known) is },
+    )
 
 -- a read
 pub read_stays : (z : Shape) (v w u x : View) (n h at : ℕ) (channels : List (List ℕ)) (before after : List Delivery) → IsHubView z v → v.post.listen ≡ Registered → HasBegun v n w → HasShown w h u → x ≡ forwarded at u
@@ -125,3 +129,19 @@ read_stays z v w u x n h at channels before after hub listener begun shown e rea
       within = calls-keep_within.read v.known x.known channels n before after read hub.within;
       seated = seats_still z v.known x.known (ap (λ (k : Known). k.session) read.known) (ap (λ (k : Known). k.db) read.known) (ap (λ (k : Known). k.notes_left) read.known) hub.seated;
     }
+
+-- a pass that has heard what another one knows, and what it has heard
+pub heard_stays : (z : Shape) (f v n a b : View) (x : ℕ) → IsHubView z f → IsHubView z v → n ≡ noted f → a ≡ joined v n → HasHeard a x b → IsHubView z b × calls.HasHeard f.known v.known b.known
+heard_stays z f v n a b x from h note join heard =
+    let K : Known = record v.known {
+      seen = calls.longer v.known.seen f.known.seen ++ heard.more;
+      told = max v.known.told f.known.told;
+      signalled = max v.known.signalled f.known.signalled;
+      owes = owes_after v.known f.known.told;
+    } in
+    let is : b ≡ record v { known = K } = heard.view ∙ ap (λ (y : View). let q : View = record y { known = record y.known { seen = y.known.seen ++ heard.more } } in q) (join ∙ ap (joined v) note)
+    ∙ ap (λ (p : Phase). let q : View = record v { known = record K { seen = cond (holds_lock p) v.known.seen (calls.longer v.known.seen f.known.seen) ++ heard.more } } in q) h.rest.free in
+    let told : calls.HasHeard f.known v.known K = record { more = heard.more; known = refl } in (
+      stays z v b K v.walk is h (calls-keep_within.heard f.known v.known K told from.within h.within) refl refl refl refl,
+      record { more = heard.more; known = ap (λ (y : View). y.known) is },
+    )

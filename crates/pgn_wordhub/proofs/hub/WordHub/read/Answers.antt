@@ -1,9 +1,9 @@
-use Rattle.std.proofs.Common.{◌≡◌, ℕ, ◌^◌, ◌<◌, ◌++◌, length, sym, ap, ◌∙◌, subst}
+use Rattle.std.proofs.Common.{◌≡◌, ℕ, ◌^◌, ◌<◌, ◌≤◌, ◌++◌, length, sym, ap, ◌∙◌, subst}
 use Rattle.pgn_base.specs.declared.format.Format.{Format}
 use Rattle.pgn_journal.specs.Due.{due}
 use Rattle.pgn_journal.specs.Journal.{next_xid}
 use Rattle.pgn_journal.specs.Packing.{place}
-use Rattle.pgn_hub.specs.Shape.{Shape}
+use Rattle.pgn_hub.specs.Shape.{Shape, notes_of_seats}
 use Rattle.pgn_words.specs.declared.view.View.{View}
 use Rattle.pgn_words.specs.Listening.{forwarded}
 use Rattle.pgn_words.specs.Passes.{view_of, known_of, shape_of}
@@ -70,11 +70,23 @@ returns-in-Ok-clause-own c =
     }
 
 pub returns-in-Err-clause-own : goal.returns-in-Err-clause-own
-returns-in-Err-clause-own c = record {
-  own = c.walk.ensures.own;
-  view = refused_stays (shape_of c.args.self.now.queue) (view_of c.args.pass.now) (view_of c.begin_walk-fin.new.pass) (view_of c.show_head-head.new.pass) (view_of c.walk.new.pass) c.begin_walk-fin.result c.show_head-head.result
-      c.requires.own.view c.begin_walk-fin.ensures.begun c.show_head-head.ensures.shown c.walk.ensures.view;
-}
+returns-in-Err-clause-own c =
+    let done = refused_stays (shape_of c.args.self.now.queue) (view_of c.args.pass.now) (view_of c.begin_walk-fin.new.pass) (view_of c.show_head-head.new.pass) (view_of c.walk.new.pass) c.begin_walk-fin.result c.show_head-head.result
+    c.requires.own.view c.begin_walk-fin.ensures.begun c.show_head-head.ensures.shown c.walk.ensures.view in
+    record { own = c.walk.ensures.own; view = done.0 }
+
+pub returns-in-Err-clause-refused : goal.returns-in-Err-clause-refused
+returns-in-Err-clause-refused c =
+    let done = refused_stays (shape_of c.args.self.now.queue) (view_of c.args.pass.now) (view_of c.begin_walk-fin.new.pass) (view_of c.show_head-head.new.pass) (view_of c.walk.new.pass) c.begin_walk-fin.result c.show_head-head.result
+    c.requires.own.view c.begin_walk-fin.ensures.begun c.show_head-head.ensures.shown c.walk.ensures.view in
+    done.1
+
+pub walk-requires-clause-reach : goal.walk-requires-clause-reach
+walk-requires-clause-reach c =
+    let limit = notes_of_seats (shape_of c.args.self.now.queue).seats in
+    let seen = (known_of c.begin_walk-fin.new.pass).seen in
+    subst (λ (u : View). length u.known.seen ≤ limit) (sym c.show_head-head.ensures.shown.view)
+    (subst (λ (z : Shape). length seen ≤ notes_of_seats z.seats) c.begin_walk-fin.ensures.own.setup c.begin_walk-fin.ensures.begun.few)
 
 pub store_forward-requires-clause-mark : goal.store_forward-requires-clause-mark
 store_forward-requires-clause-mark c =

@@ -1,6 +1,7 @@
-use Rattle.std.proofs.Common.{rules, ◌≡◌, ◌+◌, ◌^◌, ◌<◌, length, sym, ◌∙◌, subst, arith}
+use Rattle.std.proofs.Common.{rules, ◌≡◌, ◌+◌, ◌^◌, ◌<◌, length, sym, ◌∙◌, subst, arith, ℕ, suc, take, ap}
 use Rattle.pgn_words.specs.declared.pos_word.PosWord.TheVariants as words
 use Rattle.std.proofs.lemmas.List.{length-set, length-take-le}
+use Rattle.pgn_lanes.specs.Least.{least_with}
 use Rattle.pgn_journal.specs.Packing.{image}
 use Rattle.pgn_hub.specs.Shape.{Shape}
 use Rattle.pgn_words.specs.Passes.{view_of}
@@ -47,3 +48,15 @@ loop-seat-preserved c =
       length-set c.loop-seat.places (seat + 1) kept ∙ inv.3,
       first_stays c.loop-seat.places (seat + 1) kept c.args.tail (omega arith) inv.4,
     )
+
+pub slice_bounds-places-end : goal.slice_bounds-places-end
+slice_bounds-places-end c =
+    let few = c.args.self.now.shaped.few_seats in
+    let same : c.len.result ≡ length (hub_shape c.args.self.now).seats = c.len.ensures ∙ dbs_long c.args.self.now in
+    let long = c.loop-seat.invariant.3 in omega (arith, few, same, long)
+
+pub returns-clause-target : goal.returns-clause-target
+returns-clause-target c =
+    let same : c.len.result ≡ length (hub_shape c.args.self.now).seats = c.len.ensures ∙ dbs_long c.args.self.now in
+    let all : c.len.result + 1 ≡ suc c.loop-seat.seat = omega (arith, same) in
+    c.first_needed.ensures ∙ ap (λ (n : ℕ). least_with c.args.tail (take n c.loop-seat.places)) all ∙ sym c.loop-seat.invariant.2

@@ -1,4 +1,4 @@
-use Rattle.std.proofs.Common.{◌≡◌, ℕ, ◌++◌, List, length, OnOk, sym, subst}
+use Rattle.std.proofs.Common.{◌≡◌, ℕ, ◌++◌, List, length, OnOk, sym, ◌∙◌, subst}
 use Rattle.pgn_base.specs.declared.note.Note.{Note}
 use Rattle.pgn_journal.specs.Packing.{Sender}
 use Rattle.pgn_journal.specs.Pieces.{AnEntry, gives, committed_by}
@@ -26,3 +26,9 @@ returns-clause-taken c =
     (λ due note sender entry. due note sender (due_at c.args.self.now.format (shown_cells v) c.args.at (length c.args.bytes.now) v.known.db v.known.seen bytes note sender entry (c.load_bytes.ensures.bytes c.args.self.now.format (AnEntry note sender) entry.stands entry.long)))
     (subst (λ (u : View). OnOk c.deliver.result ((note : Note) (sender : Sender) → IsDueEntry c.args.self.now.format u.known.db u.known.seen bytes note sender
     → c.deliver.new.out.items ≡ c.args.out.now.items ++ gives u.known.db c.args.self.now.set.now.channels (committed_by u.known.seen) (AnEntry note sender))) c.load_bytes.ensures.view c.deliver.ensures.delivered)
+
+pub returns-clause-own : goal.returns-clause-own
+returns-clause-own c = c.deliver.ensures.own
+
+pub returns-clause-view : goal.returns-clause-view
+returns-clause-view c = c.deliver.ensures.view ∙ c.load_bytes.ensures.view

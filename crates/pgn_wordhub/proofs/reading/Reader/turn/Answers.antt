@@ -1,10 +1,12 @@
-use Rattle.std.proofs.Common.{◌≡◌, ℕ, ◌++◌, Some, sym, ap, ◌∙◌, subst, arith}
+use Rattle.std.proofs.Common.{◌≡◌, ℕ, ◌≤◌, ◌++◌, length, Some, sym, ap, ◌∙◌, subst, arith}
 use Rattle.pgn_base.specs.declared.note.Note.{Note}
 use Rattle.pgn_journal.specs.Journal.{next_xid}
 use Rattle.pgn_journal.specs.Packing.{Sender, after_bytes}
 use Rattle.pgn_journal.specs.Pieces.{AnEntry, gives, committed_by}
+use Rattle.pgn_hub.specs.Shape.{notes_of_seats}
 use Rattle.pgn_words.specs.declared.view.View.{View}
 use Rattle.pgn_words.specs.Passes.{view_of}
+use Rattle.pgn_wordhub.specs.Passes.{hub_shape}
 use Rattle.pgn_wordhub.specs.Walks.{IsEntryAt, HasEntryAt, HasTurned, IsWalking, shown_cells}
 use Rattle.pgn_wordhub.proofs.WayLaws.{turn_stops, turn_long, turn_entry, turn_passes, turn_takes, goes_here}
 use Rattle.pgn_wordhub.proofs.reading.Reader.turn.Goals as goal
@@ -83,3 +85,37 @@ returns-clause-turned c =
     (subst (λ (f : ℕ). HasTurned c.args.self.now.format (shown_cells v) f v.known.db c.args.self.now.set.now.channels v.known.seen c.args.at c.args.out.now.items c.take.new.out.items (Some (after_bytes c.args.self.now.format c.args.at c.head_at-head.result.len))) (sym c.requires.fin)
     (turn_takes c.args.self.now.format (shown_cells v) v.known.db c.args.at c.head_at-head.result.db c.head_at-head.result.xid c.head_at-head.result.len c.args.self.now.set.now.channels v.known.seen c.args.out.now.items c.take.new.out.items
     c.requires.before c.head_at-head.ensures.xid c.head_at-head.ensures.db c.head_at-head.ensures.len (omega (arith, below, fin, end)) (omega (arith, same, own)) (omega (arith, positive, value, own)) walking taken))
+
+pub returns-clause-own : goal.returns-clause-own
+returns-clause-own c = c.take.ensures.own
+
+pub returns-clause-view : goal.returns-clause-view
+returns-clause-view c = c.take.ensures.view ∙ c.head_at-head.ensures.view
+
+pub returns-in_err-take-clause-own : goal.returns-in_err-take-clause-own
+returns-in_err-take-clause-own c = c.take.ensures.own
+
+pub returns-in_err-take-clause-view : goal.returns-in_err-take-clause-view
+returns-in_err-take-clause-view c = c.take.ensures.view ∙ c.head_at-head.ensures.view
+
+pub returns-then-head-own-clause-own : goal.returns-then-head-own-clause-own
+returns-then-head-own-clause-own c = c.head_at-head.ensures.own
+
+pub returns-then-head-own-clause-view : goal.returns-then-head-own-clause-view
+returns-then-head-own-clause-view c = c.head_at-head.ensures.view
+
+pub returns-then-head-end-clause-own : goal.returns-then-head-end-clause-own
+returns-then-head-end-clause-own c = c.head_at-head.ensures.own
+
+pub returns-then-head-end-clause-view : goal.returns-then-head-end-clause-view
+returns-then-head-end-clause-view c = c.head_at-head.ensures.view
+
+pub take-requires-clause-from : goal.take-requires-clause-from
+take-requires-clause-from c = subst (λ (u : View). u.post.at ≤ c.args.at) (sym c.head_at-head.ensures.view) c.requires.from
+
+pub take-requires-clause-reach : goal.take-requires-clause-reach
+take-requires-clause-reach c =
+    let limit = notes_of_seats (hub_shape c.args.self.now.hub.now).seats in subst (λ (u : View). length u.known.seen ≤ limit) (sym c.head_at-head.ensures.view) c.requires.reach
+
+pub take-requires-clause-third : goal.take-requires-clause-third
+take-requires-clause-third c = c.head_at-head.ensures.third
