@@ -116,6 +116,46 @@ the_taker z c g views id v ks h here positive all order j x there some_session =
     let at : j ≡ id = sym seat.sits ∙ ap g.seat same_session ∙ fam.sits in
     some-injective x v (sym there ∙ ap (get_elem? views) at ∙ here)
 
+-- each transaction is one of the pass of the session that sent it
+sent_by : (z : Shape) (made : ℕ) (ks : List Known) (tx : Tx) → map (λ k. k.session) ks ≡ range_with_len 1 (seats_of z) → made ≤ seats_of z → WasMade z made tx → ((i : ℕ) (k : Known) → slice_get ks i ≡ Some k → k.db ≡ (seat_of z k.session).db)
+    → IsSomeAnd (slice_get ks (tx.session - 1)) (λ k. IsBy k tx)
+sent_by z made ks tx order few (some_session, low, of_db) dbs =
+    let r = some_at ks (seats_of z) 1 (tx.session - 1) order (omega (arith, some_session, low, few)) in by_found r.0 r.1
+  where
+    by_found : (k : Known) → slice_get ks (tx.session - 1) ≡ Some k → IsSomeAnd (slice_get ks (tx.session - 1)) (λ k. IsBy k tx)
+    by_found k there =
+        let number = (session_at ks (seats_of z) 1 (tx.session - 1) k order there).0 in
+        let same : tx.session ≡ k.session = omega (arith, number, some_session) in
+        subst (λ (o : Option Known). IsSomeAnd o (λ k. IsBy k tx)) (sym there) (record { session = same; database = of_db ∙ ap (λ e. (seat_of z e).db) same ∙ sym (dbs (tx.session - 1) k there) })
+
+-- a number that was raised by the one that has taken in all was raised by one of them
+was_raised : (ks : List Known) (v x : View) (p : ℕ × ℕ) → family v ≡ map settled ks → x ≡ v → Contains (raised_in x) p → Contains (flat_map (λ k. k.raised) ks) p
+was_raised ks v x p all same has =
+    subst (λ (l : List (ℕ × ℕ)). Contains l p) (ap (flat_map (λ (k : Known). k.raised)) all ∙ flat_settled (λ (k : Known). k.raised) (λ k. refl) ks) (subst (λ (y : View). Contains (raised_in y) p) same has)
+
+-- a mark of one of those that the one has taken in is among its pass's marks
+is_among : (ks : List Known) (count i : ℕ) (k : Known) (p : ℕ × ℕ) → map (λ k. k.session) ks ≡ range_with_len 1 count → slice_get (map settled ks) i ≡ Some k → IsMarkedBy p k → IsAmongMarks ks p
+is_among ks count i k p order there marked =
+    let from = map_from ks i k there in
+    let who : from.0.session ≡ p.0 = ap (λ (k : Known). k.session) (sym from.2) ∙ marked.0 in
+    let number = (session_at ks count 1 i from.0 order from.1).0 in
+    let index : p.0 - 1 ≡ i = omega (arith, who, number) in
+    subst (λ (o : Option Known). IsSomeAnd o (λ k. (k.session ≡ p.0) × Contains k.marks p.1)) (sym (ap (slice_get ks) index ∙ from.1))
+    (who, subst (λ (ms : List ℕ). Contains ms p.1) (ap (λ (k : Known). k.marks) from.2) marked.1)
+
+any_at : (P : Known → Type 0) (xs : List Known) → Any P xs → (i : ℕ) × (k : Known) × (slice_get xs i ≡ Some k) × P k
+any_at P [] (k, x, within, is, p) = absurd (omega (arith, within))
+any_at P (y ∷ xs) (zero, x, within, is, p) = (zero, x, ap (λ e. Some e) is, p)
+any_at P (y ∷ xs) (suc k, x, within, is, p) = let r = any_at P xs (k, x, omega (arith, within), is, p) in (suc r.0, r.1, r.2, r.3)
+
+marked_in : (v : View) (p : ℕ × ℕ) → Rattle.pgn_words.specs.WakeRule.MarkedBy p v → (i : ℕ) × (k : Known) × (slice_get (family v) i ≡ Some k) × IsMarkedBy p k
+marked_in v p m = ⊎_elim (λ mine. (zero, v.known, refl, mine)) (λ theirs. let r = any_at (IsMarkedBy p) v.joined theirs in (suc r.0, r.1, r.2, r.3)) m
+
+was_marked : (ks : List Known) (count : ℕ) (v x : View) (p : ℕ × ℕ) → map (λ k. k.session) ks ≡ range_with_len 1 count → family v ≡ map settled ks → x ≡ v → Rattle.pgn_words.specs.WakeRule.MarkedBy p x → IsAmongMarks ks p
+was_marked ks count v x p order all same marked =
+    let mark = marked_in v p (subst (λ (y : View). Rattle.pgn_words.specs.WakeRule.MarkedBy p y) same marked) in is_among ks count mark.0 mark.1 p order (ap (λ l. slice_get l mark.0) (sym all) ∙ mark.2) mark.3
+
+-- the passes that one has taken in fix a journal together
 pub gathers : (z : Shape) (c : Content) (g : World) (views : List View) (id : ℕ) (v : View) (ks : List Known) (count : ℕ) → Law z c g views → get_elem? views id ≡ some v → 0 < v.known.session → family v ≡ map settled ks
     → map (λ k. k.session) ks ≡ range_with_len 1 (seats_of z) → c.fin ≡ 3 + count → Gathered ks count
 gathers z c g views id v ks count h here positive all order fin =
@@ -129,44 +169,20 @@ gathers z c g views id v ks count h here positive all order fin =
       own = all_at (λ (k : Known). k.own ≡ xids_of k.session g.past) ks (λ i k there. (fam i k there).owns);
       own_seen = all_at (λ (k : Known). All (λ x. x < next_xid k.seen) k.own) ks (λ i k there. (fam i k there).own_seen);
       by_pass = all_at (λ (tx : Tx). IsSomeAnd (slice_get ks (tx.session - 1)) (λ k. IsBy k tx)) g.past (λ n tx there.
-          let made = at_all (WasMade z g.made) g.past n tx h.history.sessions there in
-          let some_session = made.0 in
-          let low = made.1 in
-          let few = h.seats.few in
-          let i : ℕ = tx.session - 1 in
-          let r = some_at ks (seats_of z) 1 i order (omega (arith, some_session, low, few)) in
-          let number = (session_at ks (seats_of z) 1 i r.0 order r.1).0 in
-          let same : tx.session ≡ r.0.session = omega (arith, number, some_session) in
-          subst (λ (o : Option Known). IsSomeAnd o (λ k. IsBy k tx)) (sym r.1) (record { session = same; database = made.2 ∙ ap (λ e. (seat_of z e).db) same ∙ sym (fam i r.0 r.1).db_is }));
+          sent_by z g.made ks tx order h.seats.few (at_all (WasMade z g.made) g.past n tx h.history.sessions there) (λ i k at. (fam i k at).db_is));
       finished = h.history.finished;
       told = all_at (λ (k : Known). k.told ≤ next_xid g.past) ks (λ i k there. let low = (fam i k there).told in omega (arith, low, counted));
       found = all_at (λ (p : ℕ × ℕ). Contains (flat_map (λ k. k.raised) ks) p) (flat_map (λ k. k.found) ks) (λ n p there.
           let has : Contains (found_in v) p = subst (λ (l : List (ℕ × ℕ)). Contains l p) (sym (lists (λ k. k.found) (λ k. refl))) (contains_at (flat_map (λ k. k.found) ks) n p there) in
           let place = place_of (found_in v) p has in
           let r = at_all (Raised views) (found_in v) place.0 p (h.flags.found id v here) place.1 in
-          let same = the_taker z c g views id v ks h here positive all order r.0 r.1 r.2 r.3 in
-          subst (λ (l : List (ℕ × ℕ)). Contains l p) (lists (λ k. k.raised) (λ k. refl)) (subst (λ (x : View). Contains (raised_in x) p) same r.4));
+          was_raised ks v r.1 p all (the_taker z c g views id v ks h here positive all order r.0 r.1 r.2 r.3) r.4);
       named = all_at (IsAmongMarks ks) (flat_map (λ k. k.named) ks) (λ n p there.
           let has : Contains (named_in v) p = subst (λ (l : List (ℕ × ℕ)). Contains l p) (sym (lists (λ k. k.named) (λ k. refl))) (contains_at (flat_map (λ k. k.named) ks) n p there) in
           let place = place_of (named_in v) p has in
           let r = at_all (Marked views) (named_in v) place.0 p (h.named.named id v here) place.1 in
-          let same = the_taker z c g views id v ks h here positive all order r.0 r.1 r.2 r.3 in
-          let mark = marked_in v p (subst (λ (x : View). Rattle.pgn_words.specs.WakeRule.MarkedBy p x) same r.4) in
-          let from = map_from ks mark.0 mark.1 (ap (λ l. slice_get l mark.0) (sym all) ∙ mark.2) in
-          let who : from.0.session ≡ p.0 = ap (λ (k : Known). k.session) (sym from.2) ∙ mark.3.0 in
-          let number = (session_at ks (seats_of z) 1 mark.0 from.0 order from.1).0 in
-          let index : p.0 - 1 ≡ mark.0 = omega (arith, who, number) in
-          subst (λ (o : Option Known). IsSomeAnd o (λ k. (k.session ≡ p.0) × Contains k.marks p.1)) (sym (ap (slice_get ks) index ∙ from.1))
-          (who, subst (λ (ms : List ℕ). Contains ms p.1) (ap (λ (k : Known). k.marks) from.2) mark.3.1));
+          was_marked ks (seats_of z) v r.1 p order all (the_taker z c g views id v ks h here positive all order r.0 r.1 r.2 r.3) r.4);
     }
-  where
-    any_at : (P : Known → Type 0) (xs : List Known) → Any P xs → (i : ℕ) × (k : Known) × (slice_get xs i ≡ Some k) × P k
-    any_at P [] (k, x, within, is, p) = absurd (omega (arith, within))
-    any_at P (y ∷ xs) (zero, x, within, is, p) = (zero, x, ap (λ e. Some e) is, p)
-    any_at P (y ∷ xs) (suc k, x, within, is, p) = let r = any_at P xs (k, x, omega (arith, within), is, p) in (suc r.0, r.1, r.2, r.3)
-
-    marked_in : (v : View) (p : ℕ × ℕ) → Rattle.pgn_words.specs.WakeRule.MarkedBy p v → (i : ℕ) × (k : Known) × (slice_get (family v) i ≡ Some k) × IsMarkedBy p k
-    marked_in v p m = ⊎_elim (λ mine. (zero, v.known, refl, mine)) (λ theirs. let r = any_at (IsMarkedBy p) v.joined theirs in (suc r.0, r.1, r.2, r.3)) m
 
 -- so many passes were taken in by the first, which was no listener any more, as they were not
 pub record HasTakenIn (queue : WordQueue) (all yielded rest : List WordPass) (first : WordPass) : Type 0 where
@@ -239,3 +255,13 @@ closes z id v ws xs fin count all yielded head positive f there order known join
 pub none_left : (l : List WordPass) → length l ≡ 0 → l ≡ []
 none_left [] e = refl
 none_left (x ∷ l) e = absurd (omega (arith, e))
+
+-- what holds of each pass of a list holds of one within it
+last_holds : (P : WordPass → Type 0) (front rest : List WordPass) (x : WordPass) → All P (front ++ x ∷ rest) → P x
+last_holds P [] rest x all = All-head P x rest all
+last_holds P (y ∷ front) rest x all = last_holds P front rest x (All-tail P y (front ++ x ∷ rest) all)
+
+-- what holds of all of the passes holds of the one that is taken in next
+pub yielded_holds : (P : WordPass → Type 0) (all : List WordPass) (head : WordPass) (front : List WordPass) (x : WordPass) (rest : List WordPass) → all ≡ head ∷ (front ++ x ∷ rest) → All P all → P x
+yielded_holds P all head front x rest order holds =
+    last_holds P front rest x (All-tail P head (front ++ x ∷ rest) (subst (λ (l : List WordPass). All P l) order holds))

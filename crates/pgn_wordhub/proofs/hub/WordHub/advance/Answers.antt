@@ -49,3 +49,12 @@ returns-clause-grows g c =
     let left = le-max_left c.args.extent.now.stop (page_of c.look_second-target.result) in
     let is = ap (λ (y : View). y.stop) c.free-stop.ensures.view in
     let stop = c.requires.stop in omega (arith, greater, left, is, stop)
+
+pub free-stop-requires-clause-own : goal.free-stop-requires-clause-own
+free-stop-requires-clause-own g c = c.look_second-target.ensures.own
+
+pub free-stop-requires-clause-all : goal.free-stop-requires-clause-all
+free-stop-requires-clause-all g c = c.look_second-target.ensures.seen.looked
+
+pub returns-clause-own : goal.returns-clause-own
+returns-clause-own g c = c.free-stop.ensures.own

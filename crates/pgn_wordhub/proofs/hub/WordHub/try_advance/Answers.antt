@@ -27,3 +27,12 @@ returns-in_default-clause-tried c =
     let y = view_of c.try_second.new.pass in
     tries (view_of c.args.pass.now) (view_of c.look_first-floor.new.pass) x y y (length (hub_shape c.args.self.now).seats) c.look_first-floor.result.mark c.look_first-floor.result.at x.eye.tail
     y.stop c.look_first-floor.result.holder c.look_first-floor.ensures.seen c.announce-tail.ensures.view c.try_second.ensures.some_seen refl
+
+pub free-requires-clause-own : goal.free-requires-clause-own
+free-requires-clause-own c = c.try_second.ensures.own
+
+pub returns-in-Some-clause-own : goal.returns-in-Some-clause-own
+returns-in-Some-clause-own c = c.free.ensures.own
+
+pub returns-in_default-clause-own : goal.returns-in_default-clause-own
+returns-in_default-clause-own c = c.try_second.ensures.own

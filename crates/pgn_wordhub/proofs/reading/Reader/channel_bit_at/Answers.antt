@@ -75,3 +75,18 @@ returns-clause-bit c note sender stands long =
     let none = drop_all (4 * c.loop-k.k) (piece_bytes c.args.self.now.format (AnEntry note sender)) (omega (arith, test, long)) in
     let is = subst (λ (bytes : List ℕ). (c.loop-k.sum + sum_to_zero bytes) % 64 ≡ channel_bit note.channel) none (inv.4 note sender stands long) in
     let low = inv.5 in omega (arith, is, low)
+
+pub returns-then-ended-clause-own : goal.returns-then-ended-clause-own
+returns-then-ended-clause-own c = c.cell-cell.ensures.own
+
+pub returns-then-ended-clause-view : goal.returns-then-ended-clause-view
+returns-then-ended-clause-view c = c.cell-cell.ensures.view ∙ c.loop-k.invariant.1
+
+pub returns-clause-own : goal.returns-clause-own
+returns-clause-own c = c.loop-k.invariant.0
+
+pub returns-clause-view : goal.returns-clause-view
+returns-clause-view c = c.loop-k.invariant.1
+
+pub returns-clause-within : goal.returns-clause-within
+returns-clause-within c = c.loop-k.invariant.5

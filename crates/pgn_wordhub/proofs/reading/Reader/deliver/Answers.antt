@@ -37,3 +37,27 @@ returns-else-is_due-clause-delivered c note sender e =
     let p = c.entry_parts-parts.ensures note sender e.readable e.spelling in
     not_due (known_of c.args.pass.now).db c.args.self.now.set.now.channels (committed_by (known_of c.args.pass.now).seen) c.args.out.now.items note sender c.is_due.result c.entry_parts-parts.result.channel.now c.new-xid.result
     e.of_db c.is_due.ensures.due p.channel_is (c.new-xid.ensures ∙ p.xid_is) c.if-is_due.false
+
+pub returns-in_ok-add-clause-own : goal.returns-in_ok-add-clause-own
+returns-in_ok-add-clause-own c = c.is_due.ensures.own
+
+pub returns-in_ok-add-clause-view : goal.returns-in_ok-add-clause-view
+returns-in_ok-add-clause-view c = c.is_due.ensures.view
+
+pub returns-in_err-add-clause-own : goal.returns-in_err-add-clause-own
+returns-in_err-add-clause-own c = c.is_due.ensures.own
+
+pub returns-in_err-add-clause-view : goal.returns-in_err-add-clause-view
+returns-in_err-add-clause-view c = c.is_due.ensures.view
+
+pub returns-in_err-delivery-clause-own : goal.returns-in_err-delivery-clause-own
+returns-in_err-delivery-clause-own c = c.is_due.ensures.own
+
+pub returns-in_err-delivery-clause-view : goal.returns-in_err-delivery-clause-view
+returns-in_err-delivery-clause-view c = c.is_due.ensures.view
+
+pub returns-else-is_due-clause-own : goal.returns-else-is_due-clause-own
+returns-else-is_due-clause-own c = c.is_due.ensures.own
+
+pub returns-else-is_due-clause-view : goal.returns-else-is_due-clause-view
+returns-else-is_due-clause-view c = c.is_due.ensures.view

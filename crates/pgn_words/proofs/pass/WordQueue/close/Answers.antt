@@ -1,7 +1,8 @@
 use Rattle.std.proofs.Common.{◌++◌, ◌∷◌, [], refl, sym, ap, ◌∙◌, append_assoc, arith}
 use Rattle.pgn_words.specs.declared.view.View.{View}
-use Rattle.pgn_words.specs.Passes.{view_of}
-use Rattle.pgn_words.proofs.CloseLaws.{first_and_rest, joined_more, closed_low, closes, none_left}
+use Rattle.pgn_words.specs.declared.pass.WordPass.{WordPass}
+use Rattle.pgn_words.specs.Passes.{IsPassOf, IsAtRest, view_of}
+use Rattle.pgn_words.proofs.CloseLaws.{first_and_rest, joined_more, closed_low, closes, none_left, yielded_holds}
 use Rattle.pgn_words.proofs.pass.WordQueue.close.Goals as goal
 
 pub loop-pass-init : goal.loop-pass-init
@@ -51,3 +52,15 @@ returns c =
     let first = c.from.ensures in
     closes c.args.self.table.shared.key _ (view_of c.loop-pass.first) _ _ c.word-fin.result _ c.args.passes.items c.loop-pass.yielded was.head was.own.number c.close_with-closed.ensures.values.2 c.word-fin.ensures
     (was.order ∙ ap (λ l. was.head ∷ (c.loop-pass.yielded ++ l)) (none_left c.loop-pass.pass-iterator.rest.items (let ok = c.loop-pass.pass-iterator.rest.ok in let none = c.in-None.ensures.steps in omega (arith, ok, none.0))) ∙ ap (λ l. was.head ∷ l) (Rattle.std.proofs.lemmas.List.append-nil c.loop-pass.yielded)) was.known was.joined c.requires.all (omega (arith, first))
+
+pub settle-requires-in-loop-pass-clause-own : goal.settle-requires-in-loop-pass-clause-own
+settle-requires-in-loop-pass-clause-own c =
+    let was = c.loop-pass.invariant.1 in
+    let order = was.order ∙ ap (λ l. was.head ∷ (c.loop-pass.yielded ++ l)) c.in-Some.ensures.steps.0 in
+    yielded_holds (IsPassOf c.args.self) c.args.passes.items was.head c.loop-pass.yielded c.in-Some.pass c.next.new.self.rest.items order c.requires.own
+
+pub settle-requires-in-loop-pass-clause-rest : goal.settle-requires-in-loop-pass-clause-rest
+settle-requires-in-loop-pass-clause-rest c =
+    let was = c.loop-pass.invariant.1 in
+    let order = was.order ∙ ap (λ l. was.head ∷ (c.loop-pass.yielded ++ l)) c.in-Some.ensures.steps.0 in
+    yielded_holds (λ (pass : WordPass). IsAtRest (view_of pass)) c.args.passes.items was.head c.loop-pass.yielded c.in-Some.pass c.next.new.self.rest.items order c.requires.rest
