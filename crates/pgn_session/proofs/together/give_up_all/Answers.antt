@@ -1,4 +1,5 @@
-use Rattle.std.proofs.Common.{refl, ap, ◌∙◌, arith}
+use borrow.Author.Rules.{scaled_Fits}
+use Rattle.std.proofs.Common.{refl, ap, ◌∙◌, arith, ◌<◌, length, rules}
 use Rattle.std.proofs.lemmas.List.Elements.{All-nil}
 use Rattle.pgn_session.specs.declared.session.Session.{Session}
 use Rattle.pgn_session.specs.Runs.{HasGivenUp, IsHeld, script_of, shown_of}
@@ -37,3 +38,7 @@ returns-clause-scripts g c = c.loop-session.invariant.scripts
 
 pub returns-clause-shown : goal.returns-clause-shown
 returns-clause-shown g c = c.loop-session.invariant.shown
+
+pub offset_bounds-sessions-session-index : goal.offset_bounds-sessions-session-index
+offset_bounds-sessions-session-index g c =
+    let place : c.loop-session.session-index < length c.loop-session.sessions = omega arith in scaled_Fits c.loop-session.session-index (length c.loop-session.sessions) _ place (search rules)

@@ -1,4 +1,5 @@
-use Rattle.std.proofs.Common.{refl, arith}
+use borrow.Author.Rules.{scaled_Fits}
+use Rattle.std.proofs.Common.{refl, arith, ◌<◌, length, rules}
 use Rattle.pgn_session.specs.Runs.{slept}
 use Rattle.pgn_session.proofs.TogetherLaws.{part-more, part-all}
 use Rattle.pgn_session.proofs.together.sleep_over_all.Goals as goal
@@ -13,3 +14,7 @@ returns g c = part-all (slept c.args.micros) c.args.sessions.now c.loop-session.
 
 pub loop-session-init : goal.loop-session-init
 loop-session-init g c = refl
+
+pub offset_bounds-sessions-session-index : goal.offset_bounds-sessions-session-index
+offset_bounds-sessions-session-index g c =
+    let place : c.loop-session.session-index < length c.loop-session.sessions = omega arith in scaled_Fits c.loop-session.session-index (length c.loop-session.sessions) _ place (search rules)

@@ -89,3 +89,9 @@ returns-then-is_err-clause-refused g c =
           (subst (λ (items : List Item). IsRested terms s.plan s.done s.block m.set.channels stood (known s.pass) items) (sym c.make_room.ensures.items)
           (subst (λ (set : List (List ℕ)). IsRested terms s.plan s.done s.block set stood (known s.pass) s.items.items) (sym c.make_room.ensures.channels) c.requires.rested));
     })
+
+pub returns-then-is_err-clause-own : goal.returns-then-is_err-clause-own
+returns-then-is_err-clause-own g c = subst (λ (x : Session g.row.P.Denot). g.H.Hub.is_pass c.args.hub.now x.pass) (sym c.make_room.ensures.same) c.requires.own
+
+pub carry_out-requires-clause-own : goal.carry_out-requires-clause-own
+carry_out-requires-clause-own g c κs within = subst (λ (x : Session g.row.P.Denot). g.H.Hub.is_pass c.args.hub.now x.pass) (sym c.make_room.ensures.same) c.requires.own

@@ -1,4 +1,4 @@
-use Rattle.std.proofs.Common.{ℕ, Option, sym, subst}
+use Rattle.std.proofs.Common.{ℕ, Option, sym, subst, refl}
 use Rattle.pgn_session.specs.Parts.{HasFinishedFrom}
 use Rattle.pgn_session.specs.Standing.{terms_of}
 use Rattle.pgn_session.proofs.KnownLaws.{told-set}
@@ -27,3 +27,9 @@ returns-clause-finished g c =
     let s = c.args.self.now in
     subst (λ (mark : Option ℕ). HasFinishedFrom mark (g.P.PassView.known s.pass) (g.P.PassView.known c.read_on.new.pass) s.set.channels s.items.items c.read_on.new.items.items) c.in-Some.ensures
     (c.in_ok-_to._to, c.in_ok-_to.ensures.read)
+
+pub returns-clause-own : goal.returns-clause-own
+returns-clause-own g c = c.read_on.ensures.own
+
+pub returns-clause-same : goal.returns-clause-same
+returns-clause-same g c = refl

@@ -90,3 +90,21 @@ returns-in_err-to-clause-grows g c = none-more c.args.self.now.items.items c.rea
 pub returns-in_err-to-clause-unread : goal.returns-in_err-to-clause-unread
 returns-in_err-to-clause-unread g c =
     on-err _ _ (ap (λ (k : Known). k.mark) c.in_err-to.ensures.refused.known ∙ ap (λ (k : Known). k.mark) c.woken.ensures.woken.known)
+
+pub returns-clause-own : goal.returns-clause-own
+returns-clause-own g c = c.read_on.ensures.own
+
+pub returns-in_err-to-clause-own : goal.returns-in_err-to-clause-own
+returns-in_err-to-clause-own g c = c.read_on.ensures.own
+
+pub read_on-requires-clause-own : goal.read_on-requires-clause-own
+read_on-requires-clause-own g c κs within = c.woken.ensures.own
+
+pub returns-in_err-to-clause-unshown : goal.returns-in_err-to-clause-unshown
+returns-in_err-to-clause-unshown g c = on-err _ _ c.in_err-to.ensures.refused_shows_nothing
+
+pub returns-clause-same : goal.returns-clause-same
+returns-clause-same g c = refl
+
+pub returns-in_err-to-clause-same : goal.returns-in_err-to-clause-same
+returns-in_err-to-clause-same g c = refl

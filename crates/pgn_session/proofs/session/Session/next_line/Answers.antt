@@ -45,3 +45,66 @@ quit-requires-clause-comes g c κs within = comes-as c.args.self.now c.in_ok-lin
 
 pub returns-in_err-line-clause-refused : goal.returns-in_err-line-clause-refused
 returns-in_err-line-clause-refused g c = on-err _ _ (refused-still (g.H.Hub.shape c.args.hub.now) g.P.PassView.known c.args.self.now c.requires.place c.requires.rested)
+
+pub returns-in-Run-clause-own : goal.returns-in-Run-clause-own
+returns-in-Run-clause-own g c = c.run.ensures.own
+
+pub returns-in-Run-clause-stepped : goal.returns-in-Run-clause-stepped
+returns-in-Run-clause-stepped g c = c.run.ensures.stepped
+
+pub returns-in-Run-clause-refused : goal.returns-in-Run-clause-refused
+returns-in-Run-clause-refused g c = c.run.ensures.refused
+
+pub run-requires-clause-counted : goal.run-requires-clause-counted
+run-requires-clause-counted g c κs within = c.next_act.ensures.counted
+
+pub run-requires-clause-rested : goal.run-requires-clause-rested
+run-requires-clause-rested g c κs within = c.requires.rested
+
+pub returns-in-Signal-clause-own : goal.returns-in-Signal-clause-own
+returns-in-Signal-clause-own g c = c.signal.ensures.own
+
+pub returns-in-Signal-clause-stepped : goal.returns-in-Signal-clause-stepped
+returns-in-Signal-clause-stepped g c = c.signal.ensures.stepped
+
+pub returns-in-Signal-clause-refused : goal.returns-in-Signal-clause-refused
+returns-in-Signal-clause-refused g c = c.signal.ensures.refused
+
+pub signal-requires-clause-counted : goal.signal-requires-clause-counted
+signal-requires-clause-counted g c κs within = c.next_act.ensures.counted
+
+pub signal-requires-clause-rested : goal.signal-requires-clause-rested
+signal-requires-clause-rested g c κs within = c.requires.rested
+
+pub returns-in-Await-clause-own : goal.returns-in-Await-clause-own
+returns-in-Await-clause-own g c = c.await_flag.ensures.own
+
+pub returns-in-Await-clause-stepped : goal.returns-in-Await-clause-stepped
+returns-in-Await-clause-stepped g c = c.await_flag.ensures.stepped
+
+pub returns-in-Await-clause-refused : goal.returns-in-Await-clause-refused
+returns-in-Await-clause-refused g c = c.await_flag.ensures.refused
+
+pub await_flag-requires-clause-counted : goal.await_flag-requires-clause-counted
+await_flag-requires-clause-counted g c κs within = c.next_act.ensures.counted
+
+pub await_flag-requires-clause-rested : goal.await_flag-requires-clause-rested
+await_flag-requires-clause-rested g c κs within = c.requires.rested
+
+pub returns-in-Quit-clause-own : goal.returns-in-Quit-clause-own
+returns-in-Quit-clause-own g c = c.quit.ensures.own
+
+pub returns-in-Quit-clause-stepped : goal.returns-in-Quit-clause-stepped
+returns-in-Quit-clause-stepped g c = c.quit.ensures.stepped
+
+pub returns-in-Quit-clause-refused : goal.returns-in-Quit-clause-refused
+returns-in-Quit-clause-refused g c = c.quit.ensures.refused
+
+pub quit-requires-clause-counted : goal.quit-requires-clause-counted
+quit-requires-clause-counted g c κs within = c.next_act.ensures.counted
+
+pub quit-requires-clause-rested : goal.quit-requires-clause-rested
+quit-requires-clause-rested g c κs within = c.requires.rested
+
+pub quit-requires-clause-served : goal.quit-requires-clause-served
+quit-requires-clause-served g c κs within = c.requires.served

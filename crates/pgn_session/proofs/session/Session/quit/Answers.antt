@@ -33,3 +33,6 @@ returns-clause-stepped g c =
     (quit-line terms s.plan s.done s.block s.set.channels s.doing k q s.items.items c.quit.new.items.items c.requires.comes.next c.args.line
     c.requires.place c.requires.rested c.requires.comes.split c.requires.comes.number c.requires.comes.does first c.requires.served.session quits)))
     (quits, refl, refl))
+
+pub returns-clause-own : goal.returns-clause-own
+returns-clause-own g c = c.raise_end.ensures.own

@@ -41,3 +41,9 @@ returns-in_default-clause-grows g c = none-more c.args.self.now.items.items c.ar
 
 pub returns-in_err-_to-clause-grows : goal.returns-in_err-_to-clause-grows
 returns-in_err-_to-clause-grows g c = none-more c.args.self.now.items.items c.read_on.new.items.items c.in_err-_to.ensures.refused_shows_nothing
+
+pub returns-clause-own : goal.returns-clause-own
+returns-clause-own g c = c.read_on.ensures.own
+
+pub returns-clause-same : goal.returns-clause-same
+returns-clause-same g c = refl

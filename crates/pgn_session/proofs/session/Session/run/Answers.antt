@@ -69,3 +69,24 @@ returns-in-Commit-clause-refused g c =
     let is : c.in_ok-taken.taken.effect ≡ effect.Commit left.actions left.notes left.tag = left-commit c.in_ok-taken.taken.effect left (sym c.answer.ensures.left ∙ c.in-Commit.is) in
     commit-refused (g.H.Hub.shape c.args.hub.now) g.P.PassView.known s (record s { block = c.take.new.block; items = c.answer.new.items }) c.commit.new.self left c.commit.result refl
     (c.answer.ensures.shown ∙ ap (λ (e : Effect). answered_items c.take.new.items.items c.args.next.line c.in_ok-taken.taken.rows.names e) is ∙ c.take.ensures.items) c.commit.ensures.refused
+
+pub returns-in-Usage-clause-own : goal.returns-in-Usage-clause-own
+returns-in-Usage-clause-own g c = c.measure.ensures.own
+
+pub returns-in-Commit-clause-own : goal.returns-in-Commit-clause-own
+returns-in-Commit-clause-own g c = c.commit.ensures.own
+
+pub returns-in-Nothing-clause-own : goal.returns-in-Nothing-clause-own
+returns-in-Nothing-clause-own g c = c.requires.own
+
+pub returns-in_err-taken-clause-own : goal.returns-in_err-taken-clause-own
+returns-in_err-taken-clause-own g c = c.requires.own
+
+pub commit-requires-clause-place : goal.commit-requires-clause-place
+commit-requires-clause-place g c κs within = c.requires.place
+
+pub commit-requires-clause-own : goal.commit-requires-clause-own
+commit-requires-clause-own g c κs within = c.requires.own
+
+pub measure-requires-clause-own : goal.measure-requires-clause-own
+measure-requires-clause-own g c κs within = c.requires.own
