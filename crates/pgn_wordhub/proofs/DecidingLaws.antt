@@ -1,10 +1,8 @@
 -- A writer that decides on the seats that a mask names, seat by seat and word by word, and that loads interests seat by seat.
-use Rattle.std.proofs.Common.{◌≡◌, ◌≢◌, ℕ, zero, suc, ◌+◌, ◌*◌, ◌/◌, ◌%◌, ◌==◌, ◌<◌, ◌≤◌, min, Bool, true, false, not, cond, List, [], ◌∷◌, length, replicate, set, get_or, inl, inr, refl, sym, ap, ◌∙◌, subst, arith}
+use Rattle.std.proofs.Common.{◌≡◌, ◌≢◌, ℕ, zero, suc, ◌+◌, ◌==◌, ◌<◌, ◌≤◌, Bool, true, false, not, cond, List, [], ◌∷◌, length, replicate, set, get_or, inl, inr, refl, sym, ap, ◌∙◌, subst, arith}
 use Rattle.std.proofs.lemmas.Bool.{cases_lt, cases_eq, ne_eqb}
-use Rattle.std.proofs.lemmas.List.{length-set, get_or-set_same, get_or-set_other, get_or_past, get_or-replicate}
+use Rattle.std.proofs.lemmas.List.{length-set, get_or-set_same, get_or-set_other, get_or-replicate}
 use Rattle.std.proofs.lemmas.List.Elements.{All-from_get_or}
-use Rattle.std.proofs.lemmas.Nat.Bits.{bit_at-zero}
-use Rattle.std.specs.Int.{bit_at}
 use Rattle.std.specs.Int.RustNames.{bit_and}
 use Rattle.pgn_base.specs.Interest.{interest}
 use Rattle.pgn_journal.specs.Interest.{channels_of, meets}
@@ -15,8 +13,8 @@ use Rattle.pgn_words.specs.declared.view.View.{View}
 use Rattle.pgn_words.specs.declared.view.Verdict.{Verdict}
 use Rattle.pgn_words.specs.declared.view.Verdict.TheVariants.{Decided}
 use Rattle.pgn_words.specs.Views.{AreDecided, seat_of}
-use Rattle.pgn_words.specs.Waking.{verdict_of, wake_set, is_concerned, concerned_db}
-use Rattle.pgn_wordhub.specs.Wakes.{decided_as, deemed_as, NamesFrom}
+use Rattle.pgn_words.specs.Waking.{wake_set, is_concerned, concerned_db}
+use Rattle.pgn_wordhub.specs.Wakes.{decided_as, deemed_as}
 
 -- the seats from one on, up to another, are decided; of the others it is known what was known
 pub record HasDecided (was now : List Verdict) (from to : ℕ) : Type 0 where
@@ -55,26 +53,6 @@ decides_on was mid now from at to first second h k = record {
   behind = λ i above. k.behind i above ∙ h.behind i (omega (arith, above, second));
 }
 
--- past the last seat all are decided
-pub decides_rest : (was now : List Verdict) (from at to : ℕ) → HasDecided was now from at → length was ≤ at → at ≤ to → HasDecided was now from to
-decides_rest was now from at to h past further =
-    let long = h.long in record {
-      long = h.long;
-      decided = λ i low high. elim (cases_lt i at) [
-        | inl below ↦ h.decided i low below
-        | inr above ↦ get_or_past now i Decided (omega (arith, long, past, above))
-      ];
-      before = h.before;
-      behind = λ i above. h.behind i (omega (arith, above, further));
-    }
-
--- the seats of a word are decided, which are fewer where it is the last one
-pub decides_word : (was now : List Verdict) (word seat seats : ℕ) → HasDecided was now (64 * word) seat → length was ≡ seats → min seats (64 * word + 64) ≤ seat → seat ≤ 64 * word + 64 → HasDecided was now (64 * word) (64 * (word + 1))
-decides_word was now word seat seats h long end within = elim (cases_lt seat (64 * (word + 1))) [
-  | inl below ↦ decides_rest was now (64 * word) seat (64 * (word + 1)) h (omega (arith, long, end, below)) (omega (arith, below))
-  | inr above ↦ subst (λ (n : ℕ). HasDecided was now (64 * word) n) (let same : seat ≡ 64 * (word + 1) = omega (arith, above, within) in same) h
-]
-
 -- once its wake is set, one seat more is decided
 pub wake_decides : (v w x : View) (from seat : ℕ) → from ≤ seat → x ≡ wake_set seat w → w ≡ decided_as w.verdicts v → HasDecided v.verdicts w.verdicts from seat
     → (x ≡ decided_as x.verdicts v) × HasDecided v.verdicts x.verdicts from (seat + 1)
@@ -89,18 +67,6 @@ wake_decides v w x from seat low is view h =
 pub all_decided : (was now : List Verdict) (to : ℕ) → HasDecided was now 0 to → length was ≤ to → AreDecided now
 all_decided was now to h past =
     let long = h.long in All-from_get_or (λ (verdict : Verdict). verdict ≡ Decided) now Decided (λ i below. h.decided i (omega arith) (omega (arith, below, long, past)))
-
--- a word of the mask that is zero names no seat, and these need no wake
-pub none_named : (mask : List ℕ) (vs : List Verdict) (word : ℕ) → get_or mask word 0 ≡ 0 → NamesFrom mask vs (64 * word) → HasDecided vs vs (64 * word) (64 * (word + 1))
-none_named mask vs word none named = record {
-  long = refl;
-  decided = λ i low high. named i low
-      ∙ ap (λ (n : ℕ). verdict_of (bit_at (get_or mask n 0) (i % 64) == 1)) (let there : i / 64 ≡ word = omega (arith, low, high) in there)
-      ∙ ap (λ (n : ℕ). verdict_of (bit_at n (i % 64) == 1)) none
-      ∙ ap (λ (n : ℕ). verdict_of (n == 1)) (bit_at-zero (i % 64));
-  before = λ i below. refl;
-  behind = λ i above. refl;
-}
 
 -- which seats the loaded interests concern, of the seats before one; those from it on were not loaded
 pub record HasLoaded (v : View) (owns : List ℕ) (seat : ℕ) : Type 0 where
@@ -149,10 +115,12 @@ tested_as z v w seat n sent b is setup committed may sent_is meeting =
     ∙ ap (λ d. cond d own 0) (set_got v.concerned seat (meets n (interest (channels_of v.pen.ending.notes))) may ∙ ap (meets n) (sym sent_is) ∙ meeting)
     ∙ ap (λ (y : Shape). cond b (seat_of y (seat + 1)).db 0) setup
 
+-- by none where the interest has nothing in common with what was sent
 pub tested_by_none : (z : Shape) (v w : View) (seat n sent : ℕ) → w ≡ interest_loaded seat n v → v.setup ≡ z → is_committed v.pen.ending.fate ≡ true → is_concerned v seat ≡ true → sent ≡ interest (channels_of v.pen.ending.notes)
     → bit_and n sent ≡ 0 → 0 ≡ concerned_db w seat
 tested_by_none z v w seat n sent is setup committed may sent_is apart = sym (tested_as z v w seat n sent false is setup committed may sent_is (ap (λ m. not (m == 0)) apart))
 
+-- and else by its own
 pub tested_by_own : (z : Shape) (v w : View) (seat n sent own : ℕ) → w ≡ interest_loaded seat n v → v.setup ≡ z → is_committed v.pen.ending.fate ≡ true → is_concerned v seat ≡ true → sent ≡ interest (channels_of v.pen.ending.notes)
     → bit_and n sent ≢ 0 → own ≡ (seat_of z (seat + 1)).db → own ≡ concerned_db w seat
 tested_by_own z v w seat n sent own is setup committed may sent_is common own_is =
