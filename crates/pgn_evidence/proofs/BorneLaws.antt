@@ -121,11 +121,11 @@ next_none section journal before (item.Publish x notes) p q = absurd (p x notes 
 next_none section journal before (item.QueueFull full notes) p q = absurd (q full notes refl)
 next_none section journal before i p q = (λ _. tt, λ _. refl)
 
--- How many lines an item has.
-
+-- of channels so many as there are
 pub lines_channels : (lines : List ScriptLine) (i : Item) (names these : List (List ℕ)) → i ≡ item.Channels names → these ≡ names → length (item_lines lines i) ≡ length these
 lines_channels lines i names these is same = ap (λ (x : Item). length (item_lines lines x)) is ∙ length-map names channel_line ∙ sym (ap (λ (them : List (List ℕ)). length them) same)
 
+-- of a read one more than it got
 pub lines_read : (lines : List ScriptLine) (i : Item) (from to : ℕ) (got these : List Delivery) → i ≡ item.Read from to got → these ≡ got → length (item_lines lines i) ≡ length these + 1
 lines_read lines i from to got these is same =
     let all : length (map delivery_line got) ≡ length these = length-map got delivery_line ∙ sym (ap (λ (them : List Delivery). length them) same) in

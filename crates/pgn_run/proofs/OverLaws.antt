@@ -21,17 +21,19 @@ use Rattle.pgn_run.specs.declared.print.Shows.TheVariants.{AtEnd, Live}
 use Rattle.pgn_run.specs.declared.print.Print.{Print}
 use Rattle.pgn_run.specs.declared.print.Print.TheVariants.{Text, Summary}
 
--- want of memory is no good end, and no write fault
+-- want of memory is no good end
 pub memory-done : {A : Type 0} → NoMemory ≡ Done → A
 memory-done e = absurd (cc)
 
+-- want of memory is no write fault
 pub memory-fault : {A : Type 0} → NoMemory ≡ WriteFault → A
 memory-fault e = absurd (cc)
 
--- nor is a write fault a good end, or want of memory
+-- a write fault is no good end
 pub fault-done : {A : Type 0} → WriteFault ≡ Done → A
 fault-done e = absurd (cc)
 
+-- a write fault is no want of memory
 pub fault-memory : {A : Type 0} → WriteFault ≡ NoMemory → A
 fault-memory e = absurd (cc)
 

@@ -112,7 +112,8 @@ fn encoding_of(alloc: Global, letters: &[u8]) -> Result<Verdict, AllocError>
 
 // What is kept of a value, in lower case.
 fn lowered(alloc: Global, bytes: &[u8], letters: bool) -> Result<Vec<u8>, AllocError>
-    ensures { IfOk result (λ made. made.items ≡ str_to_ascii_lowercase (filter (is_kept letters) bytes.now)) }
+    ensures { IfOk result (λ made.
+        made.items ≡ str_to_ascii_lowercase (filter (is_kept letters) bytes.now)) }
 {
     let mut made = Vec::with_capacity(alloc, bytes.len())?;
     for byte in bytes {

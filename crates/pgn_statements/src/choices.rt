@@ -156,7 +156,8 @@ fn beside(
     bytes: &[u8],
 ) -> Option<&'static str>
     requires { are_short (map (λ row. (row.0.now, row.1.now)) rows.now) ≡ true }
-    ensures value { option_map (λ text. text.now) result ≡ beside cased (map (λ row. (row.0.now, row.1.now)) rows.entry.now) bytes.now }
+    ensures value { option_map (λ text. text.now) result
+        ≡ beside cased (map (λ row. (row.0.now, row.1.now)) rows.entry.now) bytes.now }
     ensures short { IfSome result (λ text. length text.now ≤ 16) }
 {
     while let [row, rest @ ..] = rows {

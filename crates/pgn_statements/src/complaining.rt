@@ -106,8 +106,10 @@ fn words_of(
     value: &str,
     tail: &str,
 ) -> Result<ShortText, AllocError>
-    requires { length (head.now ++ name.now ++ between.now ++ value.now ++ tail.now) ≤ SHORT_BYTES_MAX }
-    ensures { IfOk result (λ words. words ≡ head.now ++ name.now ++ between.now ++ value.now ++ tail.now) }
+    requires { length (head.now ++ name.now ++ between.now ++ value.now ++ tail.now)
+        ≤ SHORT_BYTES_MAX }
+    ensures { IfOk result (λ words.
+        words ≡ head.now ++ name.now ++ between.now ++ value.now ++ tail.now) }
 {
     let mut words = String::with_capacity(alloc, WORDS_BYTES_MAX)?;
     words.push_str(head)?;

@@ -32,7 +32,8 @@ fn put_both(
     one: &Lexeme<'_>,
     other: &Lexeme<'_>,
 ) -> Result<bool, AllocError>
-    ensures { IfOk result (λ put. IsPut put (string_bytes text.old) (string_bytes text.new) (told.joined (told.value_text (meant one.now)) (told.value_text (meant other.now)))) }
+    ensures { IfOk result (λ put. IsPut put (string_bytes text.old) (string_bytes text.new)
+        (told.joined (told.value_text (meant one.now)) (told.value_text (meant other.now)))) }
 {
     if !put_value(alloc, text, one)? {
         return Ok(false);
