@@ -121,11 +121,13 @@ next_none section journal before (item.Publish x notes) p q = absurd (p x notes 
 next_none section journal before (item.QueueFull full notes) p q = absurd (q full notes refl)
 next_none section journal before i p q = (λ _. tt, λ _. refl)
 
--- of channels so many as there are
+-- How many lines an item has.
+
+-- that of rows has one for each channel
 pub lines_channels : (lines : List ScriptLine) (i : Item) (names these : List (List ℕ)) → i ≡ item.Channels names → these ≡ names → length (item_lines lines i) ≡ length these
 lines_channels lines i names these is same = ap (λ (x : Item). length (item_lines lines x)) is ∙ length-map names channel_line ∙ sym (ap (λ (them : List (List ℕ)). length them) same)
 
--- of a read one more than it got
+-- a read has one for each delivery, and its own
 pub lines_read : (lines : List ScriptLine) (i : Item) (from to : ℕ) (got these : List Delivery) → i ≡ item.Read from to got → these ≡ got → length (item_lines lines i) ≡ length these + 1
 lines_read lines i from to got these is same =
     let all : length (map delivery_line got) ≡ length these = length-map got delivery_line ∙ sym (ap (λ (them : List Delivery). length them) same) in
