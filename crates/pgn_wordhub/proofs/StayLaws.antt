@@ -105,8 +105,7 @@ refused_stays z v w u x n h hub begun shown same =
     let K : Known = record v.known { seen = v.known.seen ++ begun.more } in
     let W : View = record v { known = K; walk = record v.walk { stage = Begun; upto = n } } in
     let is : x ≡ record W { walk = record W.walk { stage = Shown; shown = shown.shown } } =
-    same ∙ shown.view ∙ ap (λ (y : View). let q : View = record y { walk = record y.walk { stage = Shown; shown = shown.shown } } in q) begun.view in
-    (
+    same ∙ shown.view ∙ ap (λ (y : View). let q : View = record y { walk = record y.walk { stage = Shown; shown = shown.shown } } in q) begun.view in (
       stays z v x K (record W.walk { stage = Shown; shown = shown.shown }) is hub (calls-keep_within.learned v.known K (record { more = begun.more; known = refl }) hub.within) refl refl refl refl,
       record { more = begun.more; known = ap (λ (y : View). y.known) is },
     )

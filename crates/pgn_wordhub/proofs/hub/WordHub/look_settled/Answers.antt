@@ -28,7 +28,7 @@ pub second_look-position-requires-clause-decided : goal.second_look-position-req
 second_look-position-requires-clause-decided g c = subst (λ (u : View). AreDecided u.verdicts) (sym c.tries.invariant.3) c.requires.decided
 
 pub second_look-position-requires-clause-next : goal.second_look-position-requires-clause-next
-second_look-position-requires-clause-next g c = 
+second_look-position-requires-clause-next g c =
     let on = c.tries.invariant.3 in
     let next = c.requires.next in record {
       second = ap (λ (u : View). u.eye.look) on ∙ next.second;
