@@ -75,17 +75,17 @@ RING_OUTPUT = b"journal 0\n" + b"".join(
 
 
 def a_listener_that_awaits_a_flag_is_woken_by_its_raise(program):
-    """Of two that notify behind the raise of a flag, the listener that awaited it is mostly the first: the other one has 20,000 lines before
-    that. Were the listener not rung, it would mostly be the last: it sleeps on its bell, for up to a second more."""
+    """Of two that notify behind the raise of a flag, the listener that awaited it is the first: the other one has 20,000 lines before that.
+    Were the listener not rung, it would mostly be the last: it sleeps on its bell, for up to a second more."""
     rounds, lines = range(10), b"BEGIN\nROLLBACK\n" * 10_000
     listens = b"".join(b"\\await f%d\nNOTIFY d\n\\signal g%d\n" % (at, at) for at in rounds)
-    raises = b"".join(b"%s\\signal f%d\n%sNOTIFY d\n\\await g%d\n" % (lines, at, lines, at) for at in rounds)
+    raises = b"".join(b"%s\\signal f%d\n%sNOTIFY d\n\\await g%d\n" % (4 * lines, at, lines, at) for at in rounds)
     given = b"\\session l 1\nLISTEN c\n%s\\session r 1\n%s" % (listens, raises)
     status, output, errors = run(program, ["run", "--patience", "1000000000"], given)
     senders = re.findall(rb"(?m)^xid \d+ session (\d) ", output)
     same((status, errors, len(senders)), (0, b"", 20), "status, errors, how many transactions")
     first = senders[::2].count(b"1")
-    if first < 5:
+    if first < 8:
         raise Wrong(f"the listener is the first to notify {first} times of 10")
 
 
