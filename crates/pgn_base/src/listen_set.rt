@@ -23,7 +23,6 @@ pub type Actions = Seq<Action>;
 /// The channels that a session listens to, in order of listening. Contracts see them, and how many more may be put in without
 /// memory. To listen and to unlisten take the same time, however many there are: places that were left are closed up where they
 /// come to be more than half.
-#[derive(Drop)]
 pub struct ListenSet {
     // The channels in order. A place is empty where its channel was left.
     places: Vec<Option<Name>>,
@@ -31,6 +30,18 @@ pub struct ListenSet {
     index: IndexMap<Key, usize, Seed>,
     bits: ChannelBits,
     room: usize,
+}
+
+// Written out, so that this crate proves it once for all that drop one.
+impl Drop for ListenSet {
+    fn drop(self) {
+        let ListenSet {
+            places: _,
+            index: _,
+            bits: _,
+            room: _,
+        } = self;
+    }
 }
 
 type Key = InPlace<NAME_BYTES_MAX>;

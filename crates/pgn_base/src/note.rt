@@ -8,10 +8,19 @@ use std::alloc::{AllocError, Global};
 use std::hash::{Hash, Hasher};
 
 /// A notification as NOTIFY names it: a channel and a payload.
-#[derive(Drop)]
 pub struct Note {
     pub channel: Name,
     pub payload: Payload,
+}
+
+// Written out, so that this crate proves it once for all that drop one.
+impl Drop for Note {
+    fn drop(self) {
+        let Note {
+            channel: _,
+            payload: _,
+        } = self;
+    }
 }
 
 pub type Notes = Seq<Note>;
@@ -50,11 +59,21 @@ impl Hash for Note {
 }
 
 /// A notification as a listener receives it. `pid` is the process number of its sender, 1000 and the session's number.
-#[derive(Drop)]
 pub struct Delivery {
     pub xid: Xid,
     pub pid: u32,
     pub note: Note,
+}
+
+// Written out, so that this crate proves it once for all that drop one.
+impl Drop for Delivery {
+    fn drop(self) {
+        let Delivery {
+            xid: _,
+            pid: _,
+            note: _,
+        } = self;
+    }
 }
 
 pub type Deliveries = Seq<Delivery>;

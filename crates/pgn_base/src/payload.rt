@@ -13,9 +13,15 @@ use std::hash::{Hash, Hasher};
 use std::marker::Model;
 
 /// What a notification says: 0 to 7,999 bytes of UTF-8 without a zero byte. Contracts see its bytes.
-#[derive(Drop)]
 pub struct Payload {
     text: Text,
+}
+
+// Written out, so that this crate proves it once for all that drop one.
+impl Drop for Payload {
+    fn drop(self) {
+        let Payload { text: _ } = self;
+    }
 }
 
 /// Why a text is no payload, or why it was not kept as one.

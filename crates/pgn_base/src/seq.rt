@@ -6,9 +6,15 @@ use std::alloc::{AllocError, Global};
 use std::marker::Model;
 
 /// A list that grows at its end. Contracts see it as the list of its items.
-#[derive(Drop)]
 pub struct Seq<T> {
     items: Vec<T>,
+}
+
+// Written out, so that this crate proves it once for all that drop one.
+impl<T: Drop> Drop for Seq<T> {
+    fn drop(self) {
+        let Seq { items: _ } = self;
+    }
 }
 
 impl<T> Model for Seq<T> {

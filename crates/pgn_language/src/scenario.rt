@@ -12,24 +12,46 @@ pub enum Act {
 }
 
 /// A line of a script: its number in the input, from 1, its text without the blanks at both ends, and its act.
-#[derive(Drop)]
 pub struct ScriptLine {
     pub line: u32,
     pub text: LineText,
     pub act: Act,
 }
 
+// Written out, so that this crate proves it once for all that drop one.
+impl Drop for ScriptLine {
+    fn drop(self) {
+        let ScriptLine {
+            line: _,
+            text: _,
+            act: _,
+        } = self;
+    }
+}
+
 pub type ScriptLines = Seq<ScriptLine>;
 
 /// One session's script. `note_lines` is how many of its lines have the command Notify or PgNotify; one that is Invalid or Bad
 /// does not count.
-#[derive(Drop)]
 pub struct Section {
     pub no: SessionNo,
     pub name: Name,
     pub db: DbOid,
     pub lines: ScriptLines,
     pub note_lines: u32,
+}
+
+// Written out, so that this crate proves it once for all that drop one.
+impl Drop for Section {
+    fn drop(self) {
+        let Section {
+            no: _,
+            name: _,
+            db: _,
+            lines: _,
+            note_lines: _,
+        } = self;
+    }
 }
 
 pub type Sections = Seq<Section>;

@@ -15,7 +15,6 @@ use pgn_journal::Tx;
 use std::alloc::{AllocError, Global};
 
 /// A journal to which questions are put.
-#[derive(Drop)]
 pub struct Ledger<'a> {
     pub format: Format,
     pub journal: &'a [Tx],
@@ -25,6 +24,19 @@ pub struct Ledger<'a> {
     turns: Turns,
     ghost known: { IsLedger format journal.now places.items turns.ranks.items turns.counts.items },
     ghost fed: { feed.sends.journal.now ≡ journal.now },
+}
+
+// Written out, so that this crate proves it once for all that drop one.
+impl<'a> Drop for Ledger<'a> {
+    fn drop(self) {
+        let Ledger {
+            format: _,
+            journal: _,
+            feed: _,
+            places: _,
+            turns: _,
+        } = self;
+    }
 }
 
 impl<'a> Ledger<'a> {

@@ -11,13 +11,24 @@ use std::alloc::{AllocError, Global};
 use std::marker::Model;
 
 /// What a transaction has sent and done so far, and its savepoints. Contracts see it as `Kept`.
-#[derive(Drop)]
 pub struct Pending {
     actions: Vec<Action>,
     notes: IndexSet<Note, Seed>,
     savepoints: Savepoints,
     // Empty, with room for all the notes: what `finish` puts them into.
     room: Vec<Note>,
+}
+
+// Written out, so that this crate proves it once for all that drop one.
+impl Drop for Pending {
+    fn drop(self) {
+        let Pending {
+            actions: _,
+            notes: _,
+            savepoints: _,
+            room: _,
+        } = self;
+    }
 }
 
 /// No savepoint that stands has the name.
@@ -130,8 +141,8 @@ impl Pending {
         let Pending {
             actions,
             notes,
+            savepoints: _,
             room,
-            ..
         } = self;
         (Actions::from_items(actions), in_list(notes, room))
     }

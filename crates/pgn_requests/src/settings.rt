@@ -18,10 +18,16 @@ pub struct Entry {
 }
 
 /// The settings of a client. Those that were not set have their default. Contracts see what was set.
-#[derive(Drop)]
 pub struct Settings {
     start: Vec<Entry>,
     now: Vec<Entry>,
+}
+
+// Written out, so that this crate proves it once for all that drop one.
+impl Drop for Settings {
+    fn drop(self) {
+        let Settings { start: _, now: _ } = self;
+    }
 }
 
 impl Model for Settings {

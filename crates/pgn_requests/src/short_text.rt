@@ -9,9 +9,15 @@ use std::marker::Model;
 pub const SHORT_BYTES_MAX: usize = 255;
 
 /// A text of at most 255 bytes: a setting's value, or what a client is told of a refusal. Contracts see its bytes.
-#[derive(Drop)]
 pub struct ShortText {
     text: Text,
+}
+
+// Written out, so that this crate proves it once for all that drop one.
+impl Drop for ShortText {
+    fn drop(self) {
+        let ShortText { text: _ } = self;
+    }
 }
 
 impl Model for ShortText {

@@ -13,7 +13,6 @@ use std::alloc::Global;
 use std::mem;
 
 /// Where a session stands in the walk over its trace.
-#[derive(Drop)]
 pub struct Standing<'a> {
     /// How many script lines have begun.
     pub next: usize,
@@ -29,6 +28,23 @@ pub struct Standing<'a> {
     pub known: IndexMap<u32, u32, Seed>,
     /// What is due next, from the mark on.
     pub watch: Watch<'a>,
+}
+
+// Written out, so that this crate proves it once for all that drop one.
+impl<'a> Drop for Standing<'a> {
+    fn drop(self) {
+        let Standing {
+            next: _,
+            owed: _,
+            block: _,
+            set: _,
+            mark: _,
+            told: _,
+            greatest: _,
+            known: _,
+            watch: _,
+        } = self;
+    }
 }
 
 impl<'a> Standing<'a> {

@@ -11,8 +11,3 @@ pub invariant_of-self-else-len-ge-FEW : goal.invariant_of-self-else-len-ge-FEW
 invariant_of-self-else-len-ge-FEW c =
     let short : length c.pop.new.self.items < 32 = omega (arith, c.if-len-ge-FEW.false, c.len.ensures, c.pop.new.self.ok.0) in
     counted-few 32 c.self.inside.list.items c.pop.new.self.items c.in-Some.field-0 _ c.in-Some.ensures.items short c.self.invariant
-
-pub invariant_of-self-else-len-ge-FEW-2 : goal.invariant_of-self-else-len-ge-FEW-2
-invariant_of-self-else-len-ge-FEW-2 c =
-    let short : length c.pop.new.self.items < 32 = omega (arith, c.if-len-ge-FEW.false, c.len.ensures, c.pop.new.self.ok.0) in
-    counted-few 32 c.self.inside.list.items c.pop.new.self.items c.in-Some.field-0 _ c.in-Some.ensures.items short c.self.invariant
