@@ -1,6 +1,5 @@
 ghost use Rattle.std.specs.Prelude.{◌≡◌, ◌<◌, ◌≤◌, true, [], map, length, Ok, Err, IfOk, OnOk, OnErr, All};
 ghost use Rattle.std.specs.Io.KnownBytes.{Appends};
-ghost use Rattle.std.specs.Thread.{IsSync, IsSend};
 ghost use Rattle.pgn_base.specs.Outside.{AppendsPrefix, Rose};
 ghost use Rattle.pgn_language.specs.Inputs.{AreNumbered};
 ghost use Rattle.pgn_live.specs.Lives.{CameTo, ComesFirst, ComesWhole, HasWritten, IsFresh, StandIn, answer_of, logs_of};
@@ -192,11 +191,11 @@ fn play_and_write<
     let ((), played) = join_mut(
         live.rt,
         &mut || -> ()
-            requires { IsSync R.row × IsSync H.row × IsSend K.row × IsPassOf live.now.outlet.now writer.now.pass × ((knows writer.now.pass).takes ≡ true) × StandIn live.now.sections.now writer.now.cursors.items }
+            requires { IsPassOf live.now.outlet.now writer.now.pass × ((knows writer.now.pass).takes ≡ true) × StandIn live.now.sections.now writer.now.cursors.items }
             ensures { IsPassOf live.entry.now.outlet.now writer.exit.now.pass × StandIn live.entry.now.sections.now writer.exit.now.cursors.items × HasWritten K.held K.faults live.entry.now.sections.now writer.entry.now writer.exit.now sink.entry.now sink.exit.now }
         { write_until(live, writer, sink) },
         &mut || -> Result<(), AllocError>
-            requires { IsSync R.row × IsSync H.row × IsSend P.row × IsPassOf live.now.outlet.now telling.now.pass × MayPlay (H.is_pass live.now.hub.now) (H.shape live.now.hub.now) P.known sessions.now (knows telling.now.pass) × IsNoneTold telling.now.told }
+            requires { IsPassOf live.now.outlet.now telling.now.pass × MayPlay (H.is_pass live.now.hub.now) (H.shape live.now.hub.now) P.known sessions.now (knows telling.now.pass) × IsNoneTold telling.now.told }
             ensures { IsPassOf live.entry.now.outlet.now telling.exit.now.pass × HavePlayed (H.is_pass live.entry.now.hub.now) (H.shape live.entry.now.hub.now) P.known sessions.entry.now sessions.exit.now (knows telling.entry.now.pass) (knows telling.exit.now.pass) result }
         { play_and_end(live, telling, sessions) },
     );

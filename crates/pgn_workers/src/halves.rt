@@ -1,5 +1,4 @@
 ghost use Rattle.std.specs.Prelude.{◌≡◌, ◌<◌, ◌≤◌, None, length};
-ghost use Rattle.std.specs.Thread.{IsSync, IsSend};
 ghost use Rattle.pgn_workers.specs.Jobs.{IsJob};
 ghost use Rattle.pgn_workers.specs.Parts.{Part, part, HalvesMayHaveRun, MayHaveRun, MayStillRun};
 
@@ -99,15 +98,13 @@ fn join_halves<W: Send, A: Send, J: Crew<W, A> + Sync, R: Threads + Wait + Sync>
     join_mut(
         rt,
         &mut || -> Option<Result<(), AllocError>>
-            requires { IsSync R.row × IsSync J.row × IsSend W.row × IsSend A.row
-                × J.ready crew.now
+            requires { J.ready crew.now
                 × J.begins crew.now (part left.now hand.now) }
             ensures { MayHaveRun (J.ran crew.entry.now) (part left.entry.now hand.entry.now)
                 (part left.exit.now hand.exit.now) result }
         { run_met(rt, crew, meeting.comes(), left, hand) },
         &mut || -> Option<Result<(), AllocError>>
-            requires { IsSync R.row × IsSync J.row × IsSend W.row × IsSend A.row
-                × J.ready crew.now
+            requires { J.ready crew.now
                 × J.begins crew.now (part right.now other.now) }
             ensures { MayHaveRun (J.ran crew.entry.now) (part right.entry.now other.entry.now)
                 (part right.exit.now other.exit.now) result }
