@@ -48,8 +48,9 @@ pub record IsWithin (k : Known) : Type 0 where
   -- its marks are within what it has seen of the journal
   pub mark : IfSome k.mark (λ mark. mark ≤ next_xid k.seen)
   pub marks : All (λ mark. mark ≤ next_xid k.seen) k.marks
-  -- it knows the wakes of each transaction of its own to be set
+  -- no transaction has a number below the first
   pub first : FIRST_XID ≤ k.signalled
+  -- it knows the wakes of each transaction of its own to be set
   pub own : All (λ x. x < k.signalled) k.own
   -- it was told of each transaction whose wakes it knows to be set and of each that it has read, and of none that it has not seen
   pub signalled : k.signalled ≤ k.told
