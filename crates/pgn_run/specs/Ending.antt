@@ -1,12 +1,16 @@
--- How a service ends.
+-- How a service ends, and the status of each end of one, and of a client.
 use Rattle.std.specs.Prelude.{◌≡◌, ◌⊎◌, ℕ, List, Option, Some, None, Result, Ok, Err}
 use Rattle.std.specs.Io.KnownBytes.{Appends}
 use Rattle.pgn_base.specs.Outside.{AppendsPrefix}
 use Rattle.pgn_frames.specs.declared.frame_fault.FrameFault.{FrameFault}
 use Rattle.pgn_frames.specs.declared.framing.NoFrame.{NoFrame}
 use Rattle.pgn_frames.specs.declared.framing.NoFrame.TheVariants.{Failed, Memory}
+use Rattle.pgn_wire.specs.declared.wire_end.WireEnd.{WireEnd}
+use Rattle.pgn_wire.specs.declared.wire_end.WireEnd.TheVariants as wire
 use Rattle.pgn_run.specs.declared.service.ServiceEnd.{ServiceEnd}
 use Rattle.pgn_run.specs.declared.service.ServiceEnd.TheVariants as end
+use Rattle.pgn_run.specs.declared.status.Status.{Status}
+use Rattle.pgn_run.specs.declared.status.Status.TheVariants.{Done, BadFrame, BadWire, NoMemory, ReadFault, WriteFault}
 use Rattle.pgn_run.specs.Service.{ServesAll, ServesFirst, ServesInPart, StopsServing}
 
 -- what a service has come to whose writes, desks and reader have come to this: a failed write before want of memory, and that before the
@@ -26,3 +30,19 @@ EndsService seats (Err (end.Bad fault)) bytes old new = ServesAll seats bytes (S
 EndsService seats (Err end.Read) bytes old new = ServesFirst seats bytes (Appends old new)
 EndsService seats (Err end.Write) bytes old new = ServesInPart seats bytes (AppendsPrefix old new)
 EndsService seats (Err end.Memory) bytes old new = (new ≡ old) ⊎ StopsServing seats bytes (Appends old new)
+
+-- the status of each end of a service
+abbrev pub serve_status : {T : Type 0} → Result T ServiceEnd → Status
+serve_status (Ok x) = Done
+serve_status (Err (end.Bad fault)) = BadFrame fault
+serve_status (Err end.Read) = ReadFault
+serve_status (Err end.Write) = WriteFault
+serve_status (Err end.Memory) = NoMemory
+
+-- the status of each end of a client
+abbrev pub wire_status : {T : Type 0} → Result T WireEnd → Status
+wire_status (Ok x) = Done
+wire_status (Err (wire.Bad fault)) = BadWire fault
+wire_status (Err wire.Read) = ReadFault
+wire_status (Err wire.Write) = WriteFault
+wire_status (Err wire.Memory) = NoMemory

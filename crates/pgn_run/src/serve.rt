@@ -1,6 +1,7 @@
 ghost use Rattle.std.specs.Prelude.{◌≡◌, ◌⊎◌, ◌<◌, ◌≤◌, IfSome};
 ghost use Rattle.pgn_base.specs.Outside.{Rose};
 ghost use Rattle.pgn_base.specs.declared.limits.TheConstants.{SECTIONS_MAX};
+ghost use Rattle.pgn_run.specs.Ending.{serve_status};
 ghost use Rattle.pgn_run.specs.Run.{AnswersServe, IsOfServe};
 
 use crate::service::{ServiceEnd, run_service};
@@ -32,7 +33,14 @@ pub(crate) fn serve<R: Threads + Wait + Sync, S: Source, K: Sink + Send>(
     ensures write_fault_where_due { K.faults sink.old < K.faults sink.new
         → result ≡ Status.WriteFault }
 {
-    match run_service::<<WordHub as Hub>::Pass, WordHub, R, S, K>(means, seats, source, sink) {
+    status_of(run_service::<<WordHub as Hub>::Pass, WordHub, R, S, K>(means, seats, source, sink))
+}
+
+// The status of each end of a service.
+fn status_of(end: Result<(), ServiceEnd>) -> Status
+    ensures { result ≡ serve_status end }
+{
+    match end {
         Ok(()) => Status::Done,
         Err(ServiceEnd::Bad(fault)) => Status::BadFrame(fault),
         Err(ServiceEnd::Read) => Status::ReadFault,

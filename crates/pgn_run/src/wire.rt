@@ -1,5 +1,6 @@
 ghost use Rattle.std.specs.Prelude.{◌≡◌, ◌<◌, IfSome};
 ghost use Rattle.pgn_base.specs.Outside.{Rose};
+ghost use Rattle.pgn_run.specs.Ending.{wire_status};
 ghost use Rattle.pgn_run.specs.Run.{AnswersWire, IsOfWire};
 
 use crate::conversing::converse;
@@ -28,13 +29,20 @@ pub(crate) fn wire<R: Wait, S: Source, K: Sink>(
     ensures write_fault_where_due { K.faults sink.old < K.faults sink.new
         → result ≡ Status.WriteFault }
 {
-    match converse::<<WordHub as Hub>::Pass, WordHub, R, S, K>(
+    status_of(converse::<<WordHub as Hub>::Pass, WordHub, R, S, K>(
         means.rt,
         means.alloc,
         means.hashes,
         source,
         sink,
-    ) {
+    ))
+}
+
+// The status of each end of a client.
+fn status_of(end: Result<(), WireEnd>) -> Status
+    ensures { result ≡ wire_status end }
+{
+    match end {
         Ok(()) => Status::Done,
         Err(WireEnd::Bad(fault)) => Status::BadWire(fault),
         Err(WireEnd::Read) => Status::ReadFault,
