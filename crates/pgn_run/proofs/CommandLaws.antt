@@ -6,8 +6,8 @@ use Rattle.pgn_base.specs.Outside.{Rose}
 use Rattle.pgn_model.specs.Walk.{Settings}
 use Rattle.pgn_run.specs.Calls.{RunEnds}
 use Rattle.pgn_run.specs.Run.{Answers}
-use Rattle.pgn_run.specs.declared.input.Unread.{Unread}
-use Rattle.pgn_run.specs.declared.input.Unread.TheVariants as unread
+use Rattle.pgn_scenario.specs.declared.input.Unread.{Unread}
+use Rattle.pgn_scenario.specs.declared.input.Unread.TheVariants as unread
 use Rattle.pgn_run.specs.declared.print.Shows.{Shows}
 use Rattle.pgn_run.specs.declared.status.Status.{Status}
 use Rattle.pgn_run.specs.declared.status.Status.TheVariants.{BadScenario, NoMemory, ReadFault, WriteFault}

@@ -8,7 +8,6 @@ ghost use Rattle.pgn_frames.specs.Writing.{Wrote};
 ghost use Rattle.pgn_run.specs.Arms.{HasReadBy, HasToldBy, HasWrittenRest};
 ghost use Rattle.pgn_run.specs.Service.{over_frame};
 
-use crate::start::Start;
 use pgn_base::{Failed, Sink, Source};
 use pgn_frames::{Caller, FrameFault, NoFrame, read_frames, write_over, write_rest, write_until};
 use pgn_hub::{Hub, PassView};
@@ -16,6 +15,7 @@ use pgn_outlet::{Bell, Outlet, OutletPass};
 use pgn_seats::{Desk, Inbox, Service, Tells, serve_seats};
 use pgn_text::Out;
 use pgn_turns::Saying;
+use pgn_workers::Start;
 use std::alloc::{AllocError, Global};
 use std::sync::Wait;
 use std::sync::atomic::{AtomicU64, Ordering};

@@ -5,13 +5,12 @@ ghost use Rattle.pgn_language.specs.Inputs.{ReadsAsScenario};
 ghost use Rattle.pgn_run.specs.Checking.{AnswersCheck, HasTold, IsOfCheck, IsUntold, IsVerdictOn, status_of, verdict_text};
 ghost use Rattle.pgn_run.specs.Run.{HasRead, settings_of};
 
-use crate::input::{Unread, read_input};
 use crate::parting::parts;
 use crate::{RunSettings, Status};
 use pgn_base::{Failed, Seed, Sink, Source, write_all};
 use pgn_check::{Verdict, check_output};
 use pgn_language::ScenarioFault;
-use pgn_scenario::read_scenario;
+use pgn_scenario::{Unread, read_input, read_scenario};
 use pgn_text::Out;
 use std::alloc::{AllocError, Global};
 use std::mem;

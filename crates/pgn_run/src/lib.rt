@@ -23,7 +23,6 @@ mod client;
 mod closing;
 mod conversing;
 pub mod examples;
-mod input;
 mod live_run;
 mod means;
 mod parting;
@@ -33,7 +32,6 @@ mod scenario_run;
 mod seating;
 mod serve;
 mod service;
-mod start;
 mod status;
 mod wire;
 

@@ -20,7 +20,6 @@ ghost use Rattle.pgn_run.specs.declared.print.Print.TheVariants.{Summary};
 ghost use Rattle.pgn_run.specs.Run.{Answers, AskToCheck, AskToDrill, AskToRun, AskToRunLive, AskToServe, AskToWire, EndsIn, HasFrames, HasRead, Performs, PerformsInPart, Runs, SoFarRuns, asked_settings, drill_settings, settings_of, settings_with, shows_if};
 
 use crate::checking::{CHECK_BYTES_MAX, check};
-use crate::input::{Unread, read_input};
 use crate::print::Shows;
 use crate::serve::serve;
 use crate::wire::wire;
@@ -30,7 +29,7 @@ use pgn_drill::drill_text;
 use pgn_hub::Hub;
 use pgn_language::Scenario;
 use pgn_options::{Asked, PATIENCE_MAX, WordsFault, read_words};
-use pgn_scenario::read_scenario;
+use pgn_scenario::{Unread, read_input, read_scenario};
 use pgn_wordhub::WordHub;
 use std::alloc::{AllocError, Global};
 use std::mem;

@@ -9,11 +9,12 @@
 //! found by their hash. A line's text is copied once.
 //!
 //! A caller asks `read_scenario(alloc, seed, b"\\session a 1\nLISTEN c\n")` for one section `a` in database 1, with the one line
-//! `LISTEN c`, whose number is 2.
+//! `LISTEN c`, whose number is 2. `read_input` takes an input's bytes from a source.
 #![tactic(auto)]
 
 mod bytes;
 mod flags;
+mod input;
 mod labels;
 mod lines;
 mod meta;
@@ -23,4 +24,5 @@ mod scenario_reading;
 mod so_far;
 mod texts;
 
+pub use input::{Unread, read_input};
 pub use scenario_reading::read_scenario;

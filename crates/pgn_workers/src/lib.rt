@@ -13,6 +13,7 @@ mod halves;
 mod job;
 mod meeting;
 mod rounds;
+mod start;
 mod turn;
 mod work;
 
@@ -20,5 +21,6 @@ pub use halves::run;
 pub use job::{Job, Pause};
 pub use meeting::Meeting;
 pub use rounds::run_in_turns;
+pub use start::Start;
 pub use turn::Turn;
 pub use work::Work;

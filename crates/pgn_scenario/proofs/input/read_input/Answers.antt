@@ -1,7 +1,7 @@
 use Rattle.std.proofs.Common.{◌≡◌, Result, Ok, Err, arith, subst, sym}
-use Rattle.pgn_run.specs.declared.input.Unread.{Unread}
-use Rattle.pgn_run.specs.declared.input.Unread.TheVariants as unread
-use Rattle.pgn_run.proofs.input.read_input.Goals as goal
+use Rattle.pgn_scenario.specs.declared.input.Unread.{Unread}
+use Rattle.pgn_scenario.specs.declared.input.Unread.TheVariants as unread
+use Rattle.pgn_scenario.proofs.input.read_input.Goals as goal
 
 -- what was read did not fail, nor did what was not read for want of memory
 abbrev HasFailed : {T : Type 0} → Result T Unread → Type 0

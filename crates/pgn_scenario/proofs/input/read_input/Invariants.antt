@@ -1,6 +1,6 @@
 use Rattle.std.proofs.Common.{◌≡◌, ◌-◌, ◌≤◌, length, vec_len}
 use Rattle.std.specs.Io.KnownBytes.{Consumes}
-use Rattle.pgn_run.proofs.input.read_input.Given as goal
+use Rattle.pgn_scenario.proofs.input.read_input.Given as goal
 
 -- what was read so far is what the source gave
 abbrev pub invariant-loop-chunk : goal.invariant-loop-chunk
