@@ -79,29 +79,37 @@ impl<'a> Parser<'a> {
         if !self.takes_word("to") {
             return self.close(Statement::Rollback);
         }
-        let name = self.savepoint_name()?;
-        self.close(Statement::RollbackTo(name))
+        match self.savepoint_name() {
+            Ok(name) => self.close(Statement::RollbackTo(name)),
+            Err(stop) => Err(stop),
+        }
     }
 
     fn savepoint(&mut self) -> Result<Statement<'a>, Stop>
         ensures { Gives result (told.beginning self.old.end verb.Savepoint self.old.tokens) }
     {
-        let name = self.name()?;
-        self.close(Statement::Savepoint(name))
+        match self.name() {
+            Ok(name) => self.close(Statement::Savepoint(name)),
+            Err(stop) => Err(stop),
+        }
     }
 
     fn release(&mut self) -> Result<Statement<'a>, Stop>
         ensures { Gives result (told.beginning self.old.end verb.Release self.old.tokens) }
     {
-        let name = self.savepoint_name()?;
-        self.close(Statement::Release(name))
+        match self.savepoint_name() {
+            Ok(name) => self.close(Statement::Release(name)),
+            Err(stop) => Err(stop),
+        }
     }
 
     fn listen(&mut self) -> Result<Statement<'a>, Stop>
         ensures { Gives result (told.beginning self.old.end verb.Listen self.old.tokens) }
     {
-        let name = self.name()?;
-        self.close(Statement::Listen(name))
+        match self.name() {
+            Ok(name) => self.close(Statement::Listen(name)),
+            Err(stop) => Err(stop),
+        }
     }
 
     fn unlisten(&mut self) -> Result<Statement<'a>, Stop>
@@ -110,16 +118,22 @@ impl<'a> Parser<'a> {
         if self.takes_sign(b'*') {
             return self.close(Statement::UnlistenAll);
         }
-        let name = self.name()?;
-        self.close(Statement::Unlisten(name))
+        match self.name() {
+            Ok(name) => self.close(Statement::Unlisten(name)),
+            Err(stop) => Err(stop),
+        }
     }
 
     fn notify(&mut self) -> Result<Statement<'a>, Stop>
         ensures { Gives result (told.beginning self.old.end verb.Notify self.old.tokens) }
     {
-        let channel = self.name()?;
-        let payload = self.payload()?;
-        self.close(Statement::Notify(channel, payload))
+        let Some(channel) = self.takes_name() else {
+            return Err(self.stop());
+        };
+        match self.payload() {
+            Ok(payload) => self.close(Statement::Notify(channel, payload)),
+            Err(stop) => Err(stop),
+        }
     }
 
     // A comma and a literal, or nothing.
@@ -129,8 +143,10 @@ impl<'a> Parser<'a> {
         if !self.takes_sign(b',') {
             return Ok(Text::Null);
         }
-        let inside = self.literal()?;
-        Ok(Text::Literal(inside))
+        match self.takes_literal() {
+            Some(inside) => Ok(Text::Literal(inside)),
+            None => Err(self.stop()),
+        }
     }
 
     fn select(&mut self) -> Result<Statement<'a>, Stop>
@@ -152,19 +168,33 @@ impl<'a> Parser<'a> {
     fn call(&mut self, statement: Statement<'a>) -> Result<Statement<'a>, Stop>
         ensures { Gives result (told.asking self.old.end (meant statement.entry) self.old.tokens) }
     {
-        self.sign(b'(')?;
-        self.sign(b')')?;
-        self.close(statement)
+        if self.takes_sign(b'(') && self.takes_sign(b')') {
+            self.close(statement)
+        } else {
+            Err(self.stop())
+        }
     }
 
     fn pg_notify(&mut self) -> Result<Statement<'a>, Stop>
         ensures { Gives result (told.calling self.old.end self.old.tokens) }
     {
-        self.sign(b'(')?;
-        let channel = self.argument()?;
-        self.sign(b',')?;
-        let payload = self.argument()?;
-        self.sign(b')')?;
+        if !self.takes_sign(b'(') {
+            return Err(self.stop());
+        }
+        let channel = match self.argument() {
+            Ok(channel) => channel,
+            Err(stop) => return Err(stop),
+        };
+        if !self.takes_sign(b',') {
+            return Err(self.stop());
+        }
+        let payload = match self.argument() {
+            Ok(payload) => payload,
+            Err(stop) => return Err(stop),
+        };
+        if !self.takes_sign(b')') {
+            return Err(self.stop());
+        }
         self.close(Statement::PgNotify(channel, payload))
     }
 
@@ -188,11 +218,21 @@ impl<'a> Parser<'a> {
     fn repeat(&mut self) -> Result<Text<'a>, Stop>
         ensures { GivesText result self.old.end self.new (told.repeating self.old.end self.old.tokens) }
     {
-        self.sign(b'(')?;
-        let inside = self.literal()?;
-        self.sign(b',')?;
-        let count = self.count()?;
-        self.sign(b')')?;
+        if !self.takes_sign(b'(') {
+            return Err(self.stop());
+        }
+        let Some(inside) = self.takes_literal() else {
+            return Err(self.stop());
+        };
+        if !self.takes_sign(b',') {
+            return Err(self.stop());
+        }
+        let Some(count) = self.takes_count() else {
+            return Err(self.stop());
+        };
+        if !self.takes_sign(b')') {
+            return Err(self.stop());
+        }
         Ok(Text::Repeat(inside, count))
     }
 
@@ -200,13 +240,12 @@ impl<'a> Parser<'a> {
     fn savepoint_name(&mut self) -> Result<Ident<'a>, Stop>
         ensures { MatchResult result (λ ident. IsNamed (told.past_savepoint self.old.tokens) self.old.end self.new ident) (λ stop. IsUnnamed (told.past_savepoint self.old.tokens) self.old.end stop) }
     {
-        let first = self.name()?;
-        if !is_savepoint(first) {
-            return Ok(first);
-        }
-        match self.takes_name() {
-            Some(name) => Ok(name),
-            None => Ok(first),
+        match self.name() {
+            Ok(first) if is_savepoint(first) => match self.takes_name() {
+                Some(name) => Ok(name),
+                None => Ok(first),
+            },
+            named => named,
         }
     }
 
@@ -216,34 +255,6 @@ impl<'a> Parser<'a> {
         match self.takes_name() {
             Some(name) => Ok(name),
             None => Err(self.stop()),
-        }
-    }
-
-    fn literal(&mut self) -> Result<Enclosed<'a>, Stop>
-        ensures { MatchResult result (λ inside. told.IsTaken Quote self.old self.new × (text_of (told.front_lexeme self.old.tokens) ≡ single inside.quote inside.raw.now)) (λ stop. told.IsRefused Quote self.old stop.at) }
-    {
-        match self.takes_literal() {
-            Some(inside) => Ok(inside),
-            None => Err(self.stop()),
-        }
-    }
-
-    fn count(&mut self) -> Result<u32, Stop>
-        ensures { MatchResult result (λ count. told.IsTaken Count self.old self.new × (value_of (told.front_lexeme self.old.tokens) ≡ count)) (λ stop. told.IsRefused Count self.old stop.at) }
-    {
-        match self.takes_count() {
-            Some(count) => Ok(count),
-            None => Err(self.stop()),
-        }
-    }
-
-    fn sign(&mut self, sign: u8) -> Result<(), Stop>
-        ensures { MatchResult result (λ _. told.IsTaken (Punct sign) self.old self.new) (λ stop. told.IsRefused (Punct sign) self.old stop.at) }
-    {
-        if self.takes_sign(sign) {
-            Ok(())
-        } else {
-            Err(self.stop())
         }
     }
 }
