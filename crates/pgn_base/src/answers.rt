@@ -40,7 +40,6 @@ pub enum Needs {
 }
 
 /// Why a command is refused. `at` counts bytes of the line's text, from 0.
-#[derive(Drop)]
 pub enum Refusal {
     Syntax { at: u32 },
     Bounds { which: Which },
@@ -48,6 +47,20 @@ pub enum Refusal {
     NoSavepoint { name: Name },
     Aborted,
     QueueFull,
+}
+
+// Written out, so that this crate proves it once for all that drop one.
+impl Drop for Refusal {
+    fn drop(self) {
+        match self {
+            Refusal::NoSavepoint { name } => drop(name),
+            Refusal::Syntax { at: _ }
+            | Refusal::Bounds { which: _ }
+            | Refusal::NeedsBlock { what: _ }
+            | Refusal::Aborted
+            | Refusal::QueueFull => {}
+        }
+    }
 }
 
 impl Copied for Refusal {

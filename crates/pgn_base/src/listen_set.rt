@@ -11,11 +11,37 @@ use std::alloc::{AllocError, Global};
 use std::marker::Model;
 
 /// What a transaction does to the listening set of its session.
-#[derive(Drop)]
 pub enum Action {
     Listen(Name),
     Unlisten(Name),
     UnlistenAll,
+}
+
+// Written out, so that this crate proves it once for all that drop one.
+impl Drop for Action {
+    fn drop(self) {
+        match self {
+            Action::Listen(name) | Action::Unlisten(name) => drop(name),
+            Action::UnlistenAll => {}
+        }
+    }
+}
+
+impl Action {
+    ghost use Rattle.pgn_base.specs.Channels.{after_action};
+
+    // Does this to a set.
+    fn act(self, set: &mut ListenSet)
+        requires room { 1 ≤ set.old.room }
+        ensures channels { set.new.channels ≡ after_action set.old.channels self }
+        ensures room { set.old.room ≤ set.new.room + 1 }
+    {
+        match self {
+            Action::Listen(name) => set.listen(name),
+            Action::Unlisten(name) => set.unlisten(&name),
+            Action::UnlistenAll => set.unlisten_all(),
+        }
+    }
 }
 
 pub type Actions = Seq<Action>;
@@ -101,19 +127,7 @@ impl ListenSet {
         ensures room { self.old.room ≤ self.new.room + length actions }
     {
         for action in actions.into_items() {
-            self.act(action);
-        }
-    }
-
-    fn act(&mut self, action: Action)
-        requires room { 1 ≤ self.old.room }
-        ensures channels { self.new.channels ≡ after_action self.old.channels action }
-        ensures room { self.old.room ≤ self.new.room + 1 }
-    {
-        match action {
-            Action::Listen(name) => self.listen(name),
-            Action::Unlisten(name) => self.unlisten(&name),
-            Action::UnlistenAll => self.unlisten_all(),
+            action.act(self);
         }
     }
 
