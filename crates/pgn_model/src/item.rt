@@ -2,7 +2,6 @@ use pgn_base::{Copied, Deliveries, Full, Names, Notes, Refusal, Seq, Tag, Usage,
 use std::alloc::{AllocError, Global};
 
 /// What a session's trace shows: a line of its script, a step of its commit, an answer, a flag, or a read.
-#[derive(Drop)]
 pub enum Item {
     /// A line of the script begins, by its number in the input.
     Line { line: u32 },
@@ -28,6 +27,31 @@ pub enum Item {
     TimedOut { looks: u64 },
     /// The mark moved from `from` to `to`, and these notifications were received.
     Read { from: Xid, to: Xid, got: Deliveries },
+}
+
+// Written out, so that this crate proves it once for all that drop one.
+impl Drop for Item {
+    fn drop(self) {
+        match self {
+            Item::Publish { xid: _, notes } => drop(notes),
+            Item::QueueFull { full: _, notes } => drop(notes),
+            Item::Refuse { refusal } => drop(refusal),
+            Item::Channels { names } => drop(names),
+            Item::Read {
+                from: _,
+                to: _,
+                got,
+            } => drop(got),
+            Item::Line { line: _ }
+            | Item::Enlist { base: _, point: _ }
+            | Item::Leave
+            | Item::Reply { tag: _, warning: _ }
+            | Item::Used { usage: _ }
+            | Item::Raise { value: _ }
+            | Item::Found { value: _ }
+            | Item::TimedOut { looks: _ } => {}
+        }
+    }
 }
 
 pub type Items = Seq<Item>;

@@ -3,12 +3,23 @@ use pgn_language::LineText;
 use pgn_requests::{Settled, Wording};
 
 /// A query of a seat's client: the number of its line in the seat's script, its text and its command, and how its answer is put.
-#[derive(Drop)]
 pub struct Asked {
     pub line: u32,
     pub text: LineText,
     pub command: Command,
     pub wording: Wording,
+}
+
+// Written out, so that this crate proves it once for all that drop one.
+impl Drop for Asked {
+    fn drop(self) {
+        let Asked {
+            line: _,
+            text: _,
+            command: _,
+            wording: _,
+        } = self;
+    }
 }
 
 /// How a client of a seat ends.
@@ -25,7 +36,6 @@ pub enum Parting {
 }
 
 /// What a seat is asked.
-#[derive(Drop)]
 pub enum Ask {
     /// A query of its client.
     Query(Asked),
@@ -35,4 +45,19 @@ pub enum Ask {
     Discard { line: u32 },
     /// The end of its client, with the number of the first of the two lines that set the seat back.
     End { line: u32, parting: Parting },
+}
+
+// Written out, so that this crate proves it once for all that drop one.
+impl Drop for Ask {
+    fn drop(self) {
+        match self {
+            Ask::Query(asked) => drop(asked),
+            Ask::Settle(settled) => drop(settled),
+            Ask::Discard { line: _ }
+            | Ask::End {
+                line: _,
+                parting: _,
+            } => {}
+        }
+    }
 }
