@@ -55,8 +55,12 @@ fn read_filler<'a>(head: &Head, body: &[u8]) -> Result<EntryView<'a>, EntryFault
 fn read_body<'a>(format: Format, head: &Head, body: &'a [u8]) -> Result<EntryView<'a>, EntryFault>
     ensures { BodyReadsAs format head.now body.now (told result) }
 {
-    let (channel, rest) = split_at_zero(body).ok_or(EntryFault::NoNul)?;
-    let (payload, padding) = split_at_zero(rest).ok_or(EntryFault::NoNul)?;
+    let Some((channel, rest)) = split_at_zero(body) else {
+        return Err(EntryFault::NoNul);
+    };
+    let Some((payload, padding)) = split_at_zero(rest) else {
+        return Err(EntryFault::NoNul);
+    };
     if !is_name(channel) || !is_payload(payload) {
         return Err(EntryFault::BadText);
     }

@@ -11,7 +11,9 @@ pub fn one_xid(line: &str, start: &str) -> Option<Xid>
         (NotNumbered IsXid start.now line.now)
         (IsNumbered IsXid start.now line.now) }
 {
-    let rest = after(line, start)?;
+    let Some(rest) = after(line, start) else {
+        return None;
+    };
     xid(rest)
 }
 
@@ -39,7 +41,9 @@ pub fn one_short(line: &str, start: &str) -> Option<u32>
         (NotNumbered IsShort start.now line.now)
         (IsNumbered IsShort start.now line.now) }
 {
-    let rest = after(line, start)?;
+    let Some(rest) = after(line, start) else {
+        return None;
+    };
     short(rest)
 }
 
@@ -49,7 +53,9 @@ pub fn one_long(line: &str, start: &str) -> Option<u64>
         (NotNumbered IsLong start.now line.now)
         (IsNumbered IsLong start.now line.now) }
 {
-    let rest = after(line, start)?;
+    let Some(rest) = after(line, start) else {
+        return None;
+    };
     long(rest)
 }
 

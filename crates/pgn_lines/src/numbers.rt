@@ -114,9 +114,13 @@ pub fn short_then<'a>(text: &'a str, word: &str) -> Option<(u32, &'a str)>
         (NotLed IsShort text.now word.now)
         (λ led. IsLed IsShort text.now word.now led.0 led.1.now) }
 {
-    let (number, rest) = long_then(text, word)?;
-    let number = u32::try_from(number).ok()?;
-    Some((number, rest))
+    let Some(led) = long_then(text, word) else {
+        return None;
+    };
+    let Ok(number) = u32::try_from(led.0) else {
+        return None;
+    };
+    Some((number, led.1))
 }
 
 /// The transaction number that a text begins with, and what follows a blank and a word after it.
@@ -125,9 +129,11 @@ pub fn xid_then<'a>(text: &'a str, word: &str) -> Option<(Xid, &'a str)>
         (NotLed IsXid text.now word.now)
         (λ led. IsLed IsXid text.now word.now led.0 led.1.now) }
 {
-    let (number, rest) = short_then(text, word)?;
-    if number >= FIRST_XID {
-        Some((Xid::new(number), rest))
+    let Some(led) = short_then(text, word) else {
+        return None;
+    };
+    if led.0 >= FIRST_XID {
+        Some((Xid::new(led.0), led.1))
     } else {
         None
     }
@@ -139,9 +145,11 @@ pub fn session_then<'a>(text: &'a str, word: &str) -> Option<(SessionNo, &'a str
         (NotLed IsSession text.now word.now)
         (λ led. IsLed IsSession text.now word.now led.0 led.1.now) }
 {
-    let (number, rest) = short_then(text, word)?;
-    if number >= 1 && number <= SECTIONS_MAX {
-        Some((SessionNo::new(number), rest))
+    let Some(led) = short_then(text, word) else {
+        return None;
+    };
+    if led.0 >= 1 && led.0 <= SECTIONS_MAX {
+        Some((SessionNo::new(led.0), led.1))
     } else {
         None
     }
