@@ -180,7 +180,3 @@ IsTaken slot old new = (takes slot old.tokens ≡ true) × (new.tokens ≡ drop 
 -- none was ahead, and nothing is changed
 abbrev pub IsKept : Slot → Ahead → Ahead → Type 0
 IsKept slot old new = (takes slot old.tokens ≡ false) × (new ≡ old)
-
--- none was ahead, and this is where the line goes wrong
-abbrev pub IsRefused : Slot → Ahead → ℕ → Type 0
-IsRefused slot old at = (takes slot old.tokens ≡ false) × (at ≡ front_at old.end old.tokens)

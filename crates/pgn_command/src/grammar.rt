@@ -1,6 +1,5 @@
 ghost use Rattle.std.specs.Prelude.{◌≡◌, codes, MatchResult};
-ghost use Rattle.pgn_language.specs.Grammar.{Key, Quote, Count, Punct, fits_slot, text_of, value_of};
-ghost use Rattle.pgn_quotes.specs.Texts.{single};
+ghost use Rattle.pgn_language.specs.Grammar.{Key, fits_slot};
 ghost use Rattle.pgn_command.specs.Reading as told;
 ghost use Rattle.pgn_command.specs.Statements.{Gives, GivesText, IsNamed, IsUnnamed, meant, ident_lexeme};
 ghost use Rattle.pgn_command.specs.declared.verb.Verb.TheVariants as verb;
