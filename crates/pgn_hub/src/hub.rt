@@ -13,7 +13,7 @@ use std::time::Duration;
 
 /// The notification service, as its sessions see it.
 pub trait Hub: Sized {
-    type Pass: PassView + Send + Drop;
+    type Pass: PassView + Drop;
 
     /// What the hub was opened for. It never changes.
     ghost shape: { Self → Shape };

@@ -7,22 +7,15 @@ ghost use Rattle.pgn_session.specs.Runs.{IsHeld, IsReady};
 use crate::relay::Live;
 use crate::telling::{PLACES, Telling, tell, told_so_far};
 use pgn_hub::{Hub, PassView};
-use pgn_model::Items;
-use pgn_outlet::Outlet;
-use pgn_session::{Session, Step, give_up_all};
-use pgn_workers::{Turn, Work};
+use pgn_session::{Session, Step, give_up_all, wait_together, waits_behind};
+use pgn_workers::{Pause, Turn, Work};
 use std::alloc::AllocError;
 use std::sync::Wait;
+use std::time::Clock;
 
 // The sessions of a hub, as workers that tell what they record. Those of one thread share what they tell by.
-#[derive(Drop)]
-pub(crate) struct LiveSessions<'a, H> {
-    pub(crate) hub: &'a H,
-    pub(crate) outlet: &'a Outlet<Items>,
-}
-
-impl<P: PassView + Send + Drop, H: Hub<Pass = P>> Work<Session<P>, Telling>
-    for LiveSessions<'_, H> {
+impl<P: PassView + Drop, H: Hub<Pass = P>, R: Wait + Clock> Work<Session<P>, Telling>
+    for Live<'_, R, H> {
     ghost use Rattle.pgn_session.specs.Runs.{IsOver, IsReady};
     ghost use Rattle.pgn_live.specs.Workers.{HandsWereJoined, PartHasGone, PartHasPlayed, PartMayGo, PartMayPlay, PartWasCut};
 
@@ -42,6 +35,25 @@ impl<P: PassView + Send + Drop, H: Hub<Pass = P>> Work<Session<P>, Telling>
 
     ghost joined = { λ c l r h. HandsWereJoined c.outlet.now l r h };
 
+    fn turn(&self, session: &mut Session<P>, telling: &mut Telling) -> Result<Turn, AllocError> {
+        take_turn(self, session, telling)
+    }
+
+    fn wait(&self, sessions: &mut [Session<P>], telling: &mut Telling, pause: Pause) -> u32 {
+        let _telling = telling;
+        let waits = waits_behind(pause.waits, pause.heard);
+        wait_together(self.rt, self.hub, sessions, Step::Waiting, waits)
+    }
+
+    fn end(
+        &self,
+        sessions: &mut [Session<P>],
+        telling: &mut Telling,
+        rounds: Result<(), AllocError>,
+    ) -> Result<(), AllocError> {
+        end_all(self.hub, sessions, &telling.told, rounds)
+    }
+
     fn cut(&self, hand: &mut Telling, size: usize) -> Telling {
         Telling::new(self.outlet.cut(&mut hand.pass, size as u64))
     }
@@ -55,7 +67,7 @@ impl<P: PassView + Send + Drop, H: Hub<Pass = P>> Work<Session<P>, Telling>
 }
 
 // A turn of a session, and what it recorded is told, and the writer's bell rung, also where the turn was refused memory. What it has told while it waited, it has heard.
-pub(crate) fn take_turn<P: PassView + Send + Drop, H: Hub<Pass = P>, R: Wait>(
+pub(crate) fn take_turn<P: PassView + Drop, H: Hub<Pass = P>, R: Wait>(
     live: &Live<'_, R, H>,
     session: &mut Session<P>,
     telling: &mut Telling,
@@ -90,7 +102,7 @@ fn as_turn(step: Step, heard: bool) -> Turn
 
 // The end of sessions that are over, or one of which was refused memory: then all raise their end flags. The error is also that not all
 // was told.
-pub(crate) fn end_all<P: PassView + Send + Drop, H: Hub<Pass = P>>(
+pub(crate) fn end_all<P: PassView + Drop, H: Hub<Pass = P>>(
     hub: &H,
     sessions: &mut [Session<P>],
     told: &[usize; PLACES],
@@ -114,7 +126,7 @@ pub(crate) fn end_all<P: PassView + Send + Drop, H: Hub<Pass = P>>(
 }
 
 // Whether of each session so many items were told as it has recorded.
-fn have_told<P: PassView + Send + Drop>(sessions: &[Session<P>], told: &[usize; PLACES]) -> bool
+fn have_told<P: PassView + Drop>(sessions: &[Session<P>], told: &[usize; PLACES]) -> bool
     ensures { result ≡ true → All (IsWhollyToldBy told.now) sessions.now }
 {
     for session in sessions {
@@ -126,7 +138,7 @@ fn have_told<P: PassView + Send + Drop>(sessions: &[Session<P>], told: &[usize; 
 }
 
 // Whether of one session so many items were told as it has recorded.
-fn is_told<P: PassView + Send + Drop>(session: &Session<P>, told: &[usize; PLACES]) -> bool
+fn is_told<P: PassView + Drop>(session: &Session<P>, told: &[usize; PLACES]) -> bool
     ensures { result ≡ true → IsWhollyToldBy told.now session.now }
 {
     session.items.len() <= told_so_far(told, session.section.no)

@@ -1,16 +1,14 @@
-ghost use Rattle.std.specs.Prelude.{◌≡◌, ◌<◌, ◌≤◌, true, [], map, length, Ok, Err, IfOk, OnOk, OnErr, All};
+ghost use Rattle.std.specs.Prelude.{◌≡◌, ◌<◌, ◌≤◌, true, [], map, length, Ok, Err, IfOk, OnOk, All};
 ghost use Rattle.std.specs.Io.KnownBytes.{Appends};
 ghost use Rattle.pgn_base.specs.Outside.{AppendsPrefix, Rose};
 ghost use Rattle.pgn_language.specs.Inputs.{AreNumbered};
 ghost use Rattle.pgn_live.specs.Lives.{CameTo, ComesFirst, ComesWhole, HasWritten, IsFresh, StandIn, answer_of, logs_of};
 ghost use Rattle.pgn_live.specs.Playing.{HavePlayed, IsNoneTold, MayPlay, sections_of};
-ghost use Rattle.pgn_live.specs.Turns.{HasToldTurn, HaveEnded, IsToldBy};
 ghost use Rattle.pgn_outlet.specs.Passes.{IsPassOf, knows};
-ghost use Rattle.pgn_outlet.specs.Rule.{MayPush, sender};
+ghost use Rattle.pgn_outlet.specs.Rule.{sender};
 ghost use Rattle.pgn_outlet.specs.Rule as rule;
-ghost use Rattle.pgn_session.specs.Runs.{HasStopped, IsHeld, IsLawful, IsOver, IsReady, script_of, shown_of};
+ghost use Rattle.pgn_session.specs.Runs.{HasStopped, IsLawful, IsOver, IsReady, script_of};
 
-use crate::live_sessions::{LiveSessions, end_all, take_turn};
 use crate::relay::{Live, Relay};
 use crate::telling::Telling;
 use crate::writing::{Writer, cursors_for, write_rest, write_until};
@@ -19,9 +17,9 @@ use pgn_hub::{Hub, PassView};
 use pgn_language::Section;
 use pgn_model::Items;
 use pgn_outlet::Outlet;
-use pgn_session::{Session, Step, give_up_all, wait_together, waits_behind};
+use pgn_session::{Session, give_up_all};
 use pgn_text::Out;
-use pgn_workers::{Job, Pause, Turn, run};
+use pgn_workers::run;
 use std::alloc::{AllocError, Global};
 use std::sync::Wait;
 use std::thread::{Threads, join_mut};
@@ -111,7 +109,7 @@ fn open_live(alloc: Global, sections: usize) -> Result<(Outlet<Items>, Telling, 
 
 // Raises the end flags of sessions that have not begun.
 #[tactic(auto, using(crate::proofs::RoundLaws::early_laws))]
-fn give_up_first<P: PassView + Send + Drop, H: Hub<Pass = P>>(hub: &H, sessions: &mut [Session<P>])
+fn give_up_first<P: PassView + Drop, H: Hub<Pass = P>>(hub: &H, sessions: &mut [Session<P>])
     requires ready { All (IsReady (H.is_pass hub.now) (H.shape hub.now) P.known) sessions.old }
     ensures stopped { All (HasStopped (H.is_pass hub.now) (H.shape hub.now) P.known) sessions.new }
     ensures lawful { All (IsLawful (H.shape hub.now)) sessions.new }
@@ -239,36 +237,7 @@ fn play<P: PassView + Send + Drop, H: Hub<Pass = P> + Sync, R: Threads + Wait + 
     ensures played { HavePlayed (H.is_pass live.now.hub.now) (H.shape live.now.hub.now) P.known
         sessions.old sessions.new (knows telling.old.pass) (knows telling.new.pass) result }
 {
-    let turn = |session: &mut Session<P>, telling: &mut Telling| -> Result<Turn, AllocError>
-        requires { IsPassOf live.now.outlet.now telling.now.pass × IsReady (H.is_pass live.now.hub.now) (H.shape live.now.hub.now) P.known session.now × MayPush (knows telling.now.pass) session.now.section.no × IsToldBy telling.now.told (knows telling.now.pass) session.now }
-        ensures { IsPassOf live.entry.now.outlet.now telling.exit.now.pass × HasToldTurn (H.is_pass live.entry.now.hub.now) (H.shape live.entry.now.hub.now) P.known session.entry.now session.exit.now telling.entry.now.told telling.exit.now.told (knows telling.entry.now.pass) (knows telling.exit.now.pass) result }
-    { take_turn(live, session, telling) };
-    let wait = |sessions: &mut [Session<P>], telling: &mut Telling, pause: Pause| -> u32
-        requires { All (IsReady (H.is_pass live.now.hub.now) (H.shape live.now.hub.now) P.known) sessions.now }
-        ensures { (telling.exit.now ≡ telling.entry.now) × All (IsReady (H.is_pass live.entry.now.hub.now) (H.shape live.entry.now.hub.now) P.known) sessions.exit.now × (map script_of sessions.exit.now ≡ map script_of sessions.entry.now) × (map shown_of sessions.exit.now ≡ map shown_of sessions.entry.now) }
-    {
-        let _telling = telling;
-        let waits = waits_behind(pause.waits, pause.heard);
-        wait_together(live.rt, live.hub, sessions, Step::Waiting, waits)
-    };
-    let end = |sessions: &mut [Session<P>], telling: &mut Telling, rounds: Result<
-        (),
-        AllocError,
-    >| -> Result<(), AllocError>
-        requires { OnErr rounds (All (IsHeld (H.is_pass live.now.hub.now) (H.shape live.now.hub.now)) sessions.now) }
-        ensures { (telling.exit.now ≡ telling.entry.now) × HaveEnded P.known sessions.entry.now sessions.exit.now telling.entry.now.told rounds result }
-    { end_all(live.hub, sessions, &telling.told, rounds) };
-    let work = LiveSessions {
-        hub: live.hub,
-        outlet: live.outlet,
-    };
-    let job = Job {
-        work,
-        turn,
-        wait,
-        end,
-    };
-    run(live.rt, &job, sessions, telling)
+    run(live.rt, live, sessions, telling)
 }
 
 // What a run has come to whose writes and whose sessions have come to this.

@@ -15,7 +15,7 @@ use pgn_threads::laws::runs_are_legal;
 use std::alloc::{AllocError, Global};
 
 // A hub for one client, and its session, of which nothing was asked yet.
-pub(crate) fn open<P: PassView + Send + Drop, H: Hub<Pass = P> + Drop>(
+pub(crate) fn open<P: PassView + Drop, H: Hub<Pass = P> + Drop>(
     alloc: Global,
     hashes: Seed,
 ) -> Result<(H, Session<P>), AllocError>
@@ -40,7 +40,7 @@ pub(crate) fn open<P: PassView + Send + Drop, H: Hub<Pass = P> + Drop>(
 }
 
 // A hub for one client, and its pass.
-fn open_hub<P: PassView + Send + Drop, H: Hub<Pass = P> + Drop>(
+fn open_hub<P: PassView + Drop, H: Hub<Pass = P> + Drop>(
     alloc: Global,
 ) -> Result<(H, P), AllocError>
     ensures shape { IfOk result (λ opened. H.shape opened.0 ≡ wire_shape) }
@@ -55,7 +55,7 @@ fn open_hub<P: PassView + Send + Drop, H: Hub<Pass = P> + Drop>(
 }
 
 // The session of a client of which nothing was asked yet, with this pass.
-fn session<P: PassView + Send + Drop>(
+fn session<P: PassView + Drop>(
     alloc: Global,
     hashes: Seed,
     pass: P,
@@ -150,7 +150,7 @@ fn section(alloc: Global) -> Result<Section, AllocError>
 }
 
 // Gathers the pass of a session that is over and listens no more: what it did is a legal run.
-pub(crate) fn finish<P: PassView + Send + Drop, H: Hub<Pass = P> + Drop>(
+pub(crate) fn finish<P: PassView + Drop, H: Hub<Pass = P> + Drop>(
     alloc: Global,
     hub: H,
     session: Session<P>,

@@ -17,7 +17,7 @@ use std::vec::IntoIter;
 
 // Closes what the seats of a service have, once its arms are done, and gathers the passes of its desks, where all have served: what they
 // did is then a legal run. The error is that memory did not suffice, for the desks or here.
-pub(crate) fn close<P: PassView + Send + Drop, H: Hub<Pass = P> + Drop, R: Wait>(
+pub(crate) fn close<P: PassView + Drop, H: Hub<Pass = P> + Drop, R: Wait>(
     rt: &R,
     alloc: Global,
     hub: H,
@@ -60,7 +60,7 @@ pub(crate) fn close<P: PassView + Send + Drop, H: Hub<Pass = P> + Drop, R: Wait>
 }
 
 // Gathers the passes of a hub, where its desks have served.
-fn gather_where_served<P: PassView + Send + Drop, H: Hub<Pass = P> + Drop>(
+fn gather_where_served<P: PassView + Drop, H: Hub<Pass = P> + Drop>(
     hub: H,
     passes: Vec<P>,
     served: Result<(), AllocError>,
@@ -88,14 +88,14 @@ fn gather_where_served<P: PassView + Send + Drop, H: Hub<Pass = P> + Drop>(
 }
 
 // What holds of each pass of a hub between calls.
-fn are_within<P: PassView + Send + Drop, H: Hub<Pass = P>>(hub: &H, passes: &[P])
+fn are_within<P: PassView + Drop, H: Hub<Pass = P>>(hub: &H, passes: &[P])
     requires { All (H.is_pass hub.now) passes.now }
     ensures { All (λ pass. IsWithin (P.known pass)) passes.now }
 {}
 
 // Closes each inbox with the next desk and the next caller, which are lent, so that nothing with parts is dropped on the way, and keeps the
 // passes of the desks' sessions.
-fn leave_each<P: PassView + Send + Drop, R: Wait>(
+fn leave_each<P: PassView + Drop, R: Wait>(
     rt: &R,
     inboxes: &[Inbox],
     desks: &mut IntoIter<Desk<P>, Global>,
@@ -123,12 +123,7 @@ fn leave_each<P: PassView + Send + Drop, R: Wait>(
 }
 
 // Closes the inbox of a desk and a caller, and gives the pass of the desk's session.
-fn leave<P: PassView + Send + Drop, R: Wait>(
-    rt: &R,
-    inbox: &Inbox,
-    desk: Desk<P>,
-    caller: Caller,
-) -> P
+fn leave<P: PassView + Drop, R: Wait>(rt: &R, inbox: &Inbox, desk: Desk<P>, caller: Caller) -> P
     requires close { MayClose inbox.now desk caller }
     ensures took { HasTakenFirst (knows caller.asks) (knows desk.asks) }
     ensures pass { result ≡ desk.session.pass }

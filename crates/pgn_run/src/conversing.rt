@@ -11,7 +11,7 @@ use std::sync::Wait;
 
 /// Serves a client over a hub of this type, which it opens: the session is number 1, of database 1, with a limit of 256 pages. It may
 /// wait for the hub, so that it is not promised that it returns. Hashes are made with this seed.
-pub fn converse<P: PassView + Send + Drop, H: Hub<Pass = P> + Drop, R: Wait, S: Source, K: Sink>(
+pub fn converse<P: PassView + Drop, H: Hub<Pass = P> + Drop, R: Wait, S: Source, K: Sink>(
     rt: &R,
     alloc: Global,
     hashes: Seed,

@@ -28,12 +28,12 @@ use std::time::Clock;
 
 /// Runs a scenario as `run_scenario` does, and writes each line of each session as it comes, behind the session's number; then the
 /// journal, and where each session ended.
-pub fn run_scenario_live<H: Hub + Sync + Drop, K: Sink + Send, R: Threads + Wait + Clock + Sync>(
-    means: &Means<'_, R>,
-    scenario: &Scenario,
-    settings: RunSettings,
-    sink: &mut K,
-) -> Status
+pub fn run_scenario_live<
+    P: PassView + Send + Drop,
+    H: Hub<Pass = P> + Sync + Drop,
+    K: Sink + Send,
+    R: Threads + Wait + Clock + Sync,
+>(means: &Means<'_, R>, scenario: &Scenario, settings: RunSettings, sink: &mut K) -> Status
     requires sound { IsSound scenario.now }
     requires some_pages { PAGES_MIN ≤ settings.pages }
     requires few_pages { settings.pages ≤ PAGES_MAX }
@@ -140,7 +140,7 @@ fn finish_live<H: Hub + Drop, K: Sink>(
 }
 
 // How many items each session has shown.
-fn counts<P: PassView + Send + Drop>(
+fn counts<P: PassView + Drop>(
     alloc: Global,
     sessions: &[Session<P>],
 ) -> Result<Vec<usize>, AllocError>

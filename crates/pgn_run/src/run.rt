@@ -26,7 +26,7 @@ use crate::wire::wire;
 use crate::{Means, Print, RunSettings, Status, run_scenario, run_scenario_live};
 use pgn_base::{Format, INPUT_BYTES_MAX, PAGES_MAX, Seed, Sink, Source};
 use pgn_drill::drill_text;
-use pgn_hub::Hub;
+use pgn_hub::{Hub, PassView};
 use pgn_language::Scenario;
 use pgn_options::{Asked, PATIENCE_MAX, WordsFault, read_words};
 use pgn_scenario::{Unread, read_input, read_scenario};
@@ -384,14 +384,19 @@ fn answer<K: Sink + Send, R: Threads + Wait + Clock + Sync>(
     let reading = read_scenario(means.alloc, means.hashes, input.as_slice());
     drop(input);
     match reading {
-        Ok(Ok(scenario)) => play::<WordHub, K, R>(means, scenario, settings, shows, sink),
+        Ok(Ok(scenario)) => play::<_, WordHub, K, R>(means, scenario, settings, shows, sink),
         Ok(Err(fault)) => Status::BadScenario(fault),
         Err(AllocError) => Status::NoMemory,
     }
 }
 
 // Runs a scenario and shows what is asked for, at the end or as it comes. It is not freed, as `run_scenario` has it.
-fn play<H: Hub + Sync + Drop, K: Sink + Send, R: Threads + Wait + Clock + Sync>(
+fn play<
+    P: PassView + Send + Drop,
+    H: Hub<Pass = P> + Sync + Drop,
+    K: Sink + Send,
+    R: Threads + Wait + Clock + Sync,
+>(
     means: &Means<'_, R>,
     scenario: Scenario,
     settings: RunSettings,
@@ -409,9 +414,11 @@ fn play<H: Hub + Sync + Drop, K: Sink + Send, R: Threads + Wait + Clock + Sync>(
     ensures rose { K.faults sink.old < K.faults sink.new → result ≡ Status.WriteFault }
 {
     match shows {
-        Shows::AtEnd(print) => { run_scenario::<H, K, R>(means, scenario, settings, print, sink) }
+        Shows::AtEnd(print) => {
+            run_scenario::<_, H, K, R>(means, scenario, settings, print, sink)
+        }
         Shows::Live => {
-            let status = run_scenario_live::<H, K, R>(means, &scenario, settings, sink);
+            let status = run_scenario_live::<_, H, K, R>(means, &scenario, settings, sink);
             mem::forget(scenario);
             status
         }

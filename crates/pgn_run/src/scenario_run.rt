@@ -9,7 +9,7 @@ ghost use Rattle.pgn_run.specs.Run.{RunsOver, HasWritten, printed, settings_of};
 use crate::{Means, Print, RunSettings, Status};
 use pgn_base::{Failed, Sink};
 use pgn_drill::{received, summary};
-use pgn_hub::Hub;
+use pgn_hub::{Hub, PassView};
 use pgn_language::Scenario;
 use pgn_text::render;
 use pgn_threads::{Run, run_on_hub};
@@ -21,7 +21,12 @@ use std::time::Clock;
 /// Runs a scenario over a hub of this type with these settings, its sessions side by side, and writes what is asked for of the run to the
 /// sink. Neither the scenario nor the run is freed: the program ends with this answer, and to free them piece by piece is no small part
 /// of it.
-pub fn run_scenario<H: Hub + Sync + Drop, K: Sink, R: Threads + Wait + Clock + Sync>(
+pub fn run_scenario<
+    P: PassView + Send + Drop,
+    H: Hub<Pass = P> + Sync + Drop,
+    K: Sink,
+    R: Threads + Wait + Clock + Sync,
+>(
     means: &Means<'_, R>,
     scenario: Scenario,
     settings: RunSettings,
@@ -48,7 +53,7 @@ pub fn run_scenario<H: Hub + Sync + Drop, K: Sink, R: Threads + Wait + Clock + S
         ⊎ (result ≡ Status.NoMemory) }
     ensures later { K.faults sink.old ≤ K.faults sink.new }
 {
-    match run_on_hub::<H, R>(
+    match run_on_hub::<_, H, R>(
         means.rt,
         means.alloc,
         means.hashes,

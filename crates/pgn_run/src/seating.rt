@@ -26,7 +26,7 @@ pub(crate) struct Seating<P> {
 }
 
 // A hub for so many seats, and what each of them has, of which nothing was asked yet. Hashes are made with this seed.
-pub(crate) fn open<P: PassView + Send + Drop, H: Hub<Pass = P> + Drop>(
+pub(crate) fn open<P: PassView + Drop, H: Hub<Pass = P> + Drop>(
     alloc: Global,
     hashes: Seed,
     seats: u32,
@@ -71,7 +71,7 @@ fn notes_for(seats: u32) -> u32
 }
 
 // What the seats have of these passes.
-fn seating_for<P: PassView + Send + Drop>(
+fn seating_for<P: PassView + Drop>(
     alloc: Global,
     hashes: Seed,
     seats: u32,
@@ -117,7 +117,7 @@ pub(crate) fn destroy_all(mut inboxes: Vec<Inbox>) {
 }
 
 // Seats a session for each of the passes, in order; they are lent, so that they are dropped where all is done.
-fn seat_each<P: PassView + Send + Drop>(
+fn seat_each<P: PassView + Drop>(
     alloc: Global,
     hashes: Seed,
     seats: u32,
@@ -145,7 +145,7 @@ fn seat_each<P: PassView + Send + Drop>(
 }
 
 // The session of a seat of which nothing was asked yet, with its pass as the hub was opened.
-fn session_for<P: PassView + Send + Drop>(
+fn session_for<P: PassView + Drop>(
     alloc: Global,
     hashes: Seed,
     seats: u32,
@@ -213,7 +213,7 @@ fn only_quit(alloc: Global) -> Result<ScriptLines, AllocError>
 }
 
 // Gives a session a desk, with an inbox and a caller.
-fn sit<P: PassView + Send + Drop>(
+fn sit<P: PassView + Drop>(
     alloc: Global,
     seats: u32,
     session: Session<P>,

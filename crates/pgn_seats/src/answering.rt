@@ -23,7 +23,7 @@ use std::alloc::{AllocError, Global};
 use std::sync::Wait;
 
 // Answers a query: what is heard before its line is told before, and its whole answer at once.
-pub(crate) fn answer<P: PassView + Send + Drop, H: Hub<Pass = P>, R: Wait>(
+pub(crate) fn answer<P: PassView + Drop, H: Hub<Pass = P>, R: Wait>(
     service: &Service<'_, H, R>,
     desk: &mut Desk<P>,
     query: &Asked,
@@ -42,7 +42,7 @@ pub(crate) fn answer<P: PassView + Send + Drop, H: Hub<Pass = P>, R: Wait>(
 }
 
 // Puts a query's line into the script.
-fn put_query<P: PassView + Send + Drop>(
+fn put_query<P: PassView + Drop>(
     alloc: Global,
     desk: &mut Desk<P>,
     query: &Asked,
@@ -56,7 +56,7 @@ fn put_query<P: PassView + Send + Drop>(
 }
 
 // Runs a query's line, which is to come, and tells its whole answer. Where memory does not suffice, nothing of it is told.
-fn run_query<P: PassView + Send + Drop, H: Hub<Pass = P>, R: Wait>(
+fn run_query<P: PassView + Drop, H: Hub<Pass = P>, R: Wait>(
     service: &Service<'_, H, R>,
     session: &mut Session<P>,
     query: &Asked,

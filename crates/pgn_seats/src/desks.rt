@@ -14,7 +14,7 @@ use std::time::Duration;
 // How long desks that share a thread sleep at most on the bell of the first of them.
 const LONGEST_SHARED: u64 = 1;
 
-impl<P: PassView + Send + Drop, H: Hub<Pass = P>, R> Work<Desk<P>, Tells> for Service<'_, H, R> {
+impl<P: PassView + Drop, H: Hub<Pass = P>, R: Wait> Work<Desk<P>, Tells> for Service<'_, H, R> {
     ghost use Rattle.std.specs.Prelude.{◌≡◌};
     ghost use Rattle.pgn_session.specs.declared.doing.Doing.TheVariants.{Over};
     ghost use Rattle.pgn_seats.specs.Workers.{HandsWereJoined, PartHasGone, PartHasServed, PartMayGo, PartMayServe, PartWasCut};
@@ -35,6 +35,25 @@ impl<P: PassView + Send + Drop, H: Hub<Pass = P>, R> Work<Desk<P>, Tells> for Se
 
     ghost joined = { λ c l r h. HandsWereJoined c.outbox.now l r h };
 
+    fn turn(&self, desk: &mut Desk<P>, tells: &mut Tells) -> Result<Turn, AllocError> {
+        turn_at(self, desk, tells)
+    }
+
+    fn wait(&self, desks: &mut [Desk<P>], tells: &mut Tells, pause: Pause) -> u32 {
+        let _tells = tells;
+        wait_behind(self.rt, self.hub, desks, pause)
+    }
+
+    fn end(
+        &self,
+        desks: &mut [Desk<P>],
+        tells: &mut Tells,
+        rounds: Result<(), AllocError>,
+    ) -> Result<(), AllocError> {
+        let _desks = desks;
+        end_desks(self.hub, tells.refused, rounds)
+    }
+
     fn cut(&self, hand: &mut Tells, size: usize) -> Tells {
         Tells::new(self.outbox.cut(&mut hand.pass, size as u64))
     }
@@ -48,7 +67,7 @@ impl<P: PassView + Send + Drop, H: Hub<Pass = P>, R> Work<Desk<P>, Tells> for Se
 }
 
 // A turn of a desk. Once one of those that share a thread was refused memory, or ends since another was, each is refused.
-pub(crate) fn turn_at<P: PassView + Send + Drop, H: Hub<Pass = P>, R: Wait>(
+pub(crate) fn turn_at<P: PassView + Drop, H: Hub<Pass = P>, R: Wait>(
     service: &Service<'_, H, R>,
     desk: &mut Desk<P>,
     tells: &mut Tells,
@@ -78,7 +97,7 @@ pub(crate) fn turn_at<P: PassView + Send + Drop, H: Hub<Pass = P>, R: Wait>(
 // A wait behind a round in which nothing was done. Behind the first one the bell of the first desk is armed, and each looks once more; behind the
 // next they doze on it. A desk alone on its thread so loses no ring: who rings has pushed before, or set a wake. Of desks that share one
 // another's ring is not heard, and the doze ends within a millisecond.
-pub(crate) fn wait_behind<P: PassView + Send + Drop, H: Hub<Pass = P>, R: Wait>(
+pub(crate) fn wait_behind<P: PassView + Drop, H: Hub<Pass = P>, R: Wait>(
     rt: &R,
     hub: &H,
     desks: &[Desk<P>],
@@ -93,7 +112,7 @@ pub(crate) fn wait_behind<P: PassView + Send + Drop, H: Hub<Pass = P>, R: Wait>(
 }
 
 // Arms the bell of a desk, where no round before has given nothing, and else dozes on it: until it rings, where the desk is alone on its thread.
-fn rest_at<P: PassView + Send + Drop, H: Hub<Pass = P>, R: Wait>(
+fn rest_at<P: PassView + Drop, H: Hub<Pass = P>, R: Wait>(
     rt: &R,
     hub: &H,
     desk: &Desk<P>,

@@ -12,7 +12,7 @@ use std::alloc::AllocError;
 use std::sync::Wait;
 
 // Does `DISCARD ALL`, by two lines from this number on, and tells it by the state of the block before them, with what was heard meanwhile.
-pub(crate) fn discard<P: PassView + Send + Drop, H: Hub<Pass = P>, R: Wait>(
+pub(crate) fn discard<P: PassView + Drop, H: Hub<Pass = P>, R: Wait>(
     service: &Service<'_, H, R>,
     desk: &mut Desk<P>,
     line: u32,

@@ -19,7 +19,7 @@ use std::alloc::AllocError;
 use std::sync::Wait;
 
 // Reads before the line that is to come, if it listens or opens a block, and tells what was heard.
-pub(crate) fn hear_before<P: PassView + Send + Drop, H: Hub<Pass = P>, R: Wait>(
+pub(crate) fn hear_before<P: PassView + Drop, H: Hub<Pass = P>, R: Wait>(
     service: &Service<'_, H, R>,
     session: &mut Session<P>,
     tells: &mut OutletPass<Saying>,
@@ -51,7 +51,7 @@ pub(crate) fn hear_before<P: PassView + Send + Drop, H: Hub<Pass = P>, R: Wait>(
 }
 
 // Where nothing is asked: reads where the session was woken, and tells what was heard. The error is also that the run was called off.
-pub(crate) fn listen<P: PassView + Send + Drop, H: Hub<Pass = P>, R: Wait>(
+pub(crate) fn listen<P: PassView + Drop, H: Hub<Pass = P>, R: Wait>(
     service: &Service<'_, H, R>,
     session: &mut Session<P>,
     tells: &mut OutletPass<Saying>,

@@ -14,7 +14,7 @@ use std::alloc::AllocError;
 use std::sync::Wait;
 
 // Puts two lines into the script and runs them: this one, and behind it the one that ends all listening.
-pub(crate) fn take_both<P: PassView + Send + Drop, H: Hub<Pass = P>, R: Wait>(
+pub(crate) fn take_both<P: PassView + Drop, H: Hub<Pass = P>, R: Wait>(
     service: &Service<'_, H, R>,
     desk: &mut Desk<P>,
     line: ScriptLine,
@@ -35,7 +35,7 @@ pub(crate) fn take_both<P: PassView + Send + Drop, H: Hub<Pass = P>, R: Wait>(
 }
 
 // Puts a line into the script and runs it.
-fn take_line<P: PassView + Send + Drop, H: Hub<Pass = P>, R: Wait>(
+fn take_line<P: PassView + Drop, H: Hub<Pass = P>, R: Wait>(
     service: &Service<'_, H, R>,
     desk: &mut Desk<P>,
     line: ScriptLine,
@@ -50,7 +50,7 @@ fn take_line<P: PassView + Send + Drop, H: Hub<Pass = P>, R: Wait>(
 }
 
 // Lets the session take the line that is to come, or the `\quit` behind the last, and read where it was woken.
-pub(crate) fn run_line<P: PassView + Send + Drop, H: Hub<Pass = P>, R: Wait>(
+pub(crate) fn run_line<P: PassView + Drop, H: Hub<Pass = P>, R: Wait>(
     service: &Service<'_, H, R>,
     session: &mut Session<P>,
 ) -> Result<(), AllocError>
@@ -66,7 +66,7 @@ pub(crate) fn run_line<P: PassView + Send + Drop, H: Hub<Pass = P>, R: Wait>(
 
 // Puts a line that runs a command into the script, before the `\quit` that ends it. The error is that memory did not suffice, or that more
 // lines would notify than may, which whoever asks sees to; nothing has changed then.
-pub(crate) fn put_line<P: PassView + Send + Drop>(
+pub(crate) fn put_line<P: PassView + Drop>(
     desk: &mut Desk<P>,
     line: ScriptLine,
 ) -> Result<(), AllocError>

@@ -17,7 +17,7 @@ use std::sync::Wait;
 
 // Sets the seat back behind a client's end, by two lines from this number on of whose answers nobody is told, and with the settings of the
 // next client; and then tells the end.
-pub(crate) fn reset<P: PassView + Send + Drop, H: Hub<Pass = P>, R: Wait>(
+pub(crate) fn reset<P: PassView + Drop, H: Hub<Pass = P>, R: Wait>(
     service: &Service<'_, H, R>,
     desk: &mut Desk<P>,
     line: u32,

@@ -1,13 +1,9 @@
-ghost use Rattle.std.specs.Prelude.{◌≡◌, false, Ok, OnOk};
 ghost use Rattle.pgn_outlet.specs.Passes.{IsPassOf, knows};
-ghost use Rattle.pgn_outlet.specs.Rule.{MayPush};
 ghost use Rattle.pgn_seats.specs.Desks.{HaveServed, MayServe};
-ghost use Rattle.pgn_seats.specs.Workers.{HasTakenTurn, HaveSeats, StandsBy};
 
-use crate::desks::{end_desks, turn_at, wait_behind};
 use crate::{Desk, Service, Tells};
 use pgn_hub::{Hub, PassView};
-use pgn_workers::{Job, Pause, Turn, run};
+use pgn_workers::run;
 use std::alloc::AllocError;
 use std::sync::Wait;
 use std::thread::Threads;
@@ -30,47 +26,5 @@ pub fn serve_seats<P: PassView + Send + Drop, H: Hub<Pass = P> + Sync, R: Thread
         (knows tells.new.pass) result }
 {
     tells.refused = false;
-    let turn = |desk: &mut Desk<P>, tells: &mut Tells| -> Result<Turn, AllocError>
-        requires { IsPassOf service.now.outbox.now tells.now.pass
-            × MayPush (knows tells.now.pass) desk.now.session.section.no
-            × StandsBy (H.is_pass service.now.hub.now) (H.shape service.now.hub.now) P.known
-            service.now.inboxes.now tells.now.refused (knows tells.now.pass) desk.now }
-        ensures { IsPassOf service.entry.now.outbox.now tells.exit.now.pass
-            × HasTakenTurn (H.is_pass service.entry.now.hub.now) (H.shape service.entry.now.hub.now)
-            P.known service.entry.now.inboxes.now desk.entry.now desk.exit.now
-            tells.entry.now.refused tells.exit.now.refused (knows tells.entry.now.pass)
-            (knows tells.exit.now.pass) result }
-    { turn_at(service, desk, tells) };
-    let wait = |desks: &mut [Desk<P>], tells: &mut Tells, pause: Pause| -> u32
-        requires { HaveSeats (H.shape service.now.hub.now) desks.now }
-        ensures { (tells.exit.now ≡ tells.entry.now) × (desks.exit.now ≡ desks.entry.now) }
-    {
-        let _tells = tells;
-        wait_behind(service.rt, service.hub, desks, pause)
-    };
-    let end = |desks: &mut [Desk<P>], tells: &mut Tells, rounds: Result<(), AllocError>| -> Result<
-        (),
-        AllocError,
-    >
-        ensures { (tells.exit.now ≡ tells.entry.now) × (desks.exit.now ≡ desks.entry.now)
-            × OnOk result ((rounds ≡ Ok tt) × (tells.entry.now.refused ≡ false)) }
-    {
-        let _desks = desks;
-        end_desks(service.hub, tells.refused, rounds)
-    };
-    let work = Service {
-        rt: service.rt,
-        alloc: service.alloc,
-        hub: service.hub,
-        inboxes: service.inboxes,
-        outbox: service.outbox,
-        bell: service.bell,
-    };
-    let job = Job {
-        work,
-        turn,
-        wait,
-        end,
-    };
-    run(service.rt, &job, desks, tells)
+    run(service.rt, service, desks, tells)
 }

@@ -12,7 +12,7 @@ use std::alloc::AllocError;
 use std::sync::Wait;
 
 // Settles what is settled without the session, which has no line and no item of it, and tells it at once.
-pub(crate) fn settle<P: PassView + Send + Drop, H: Hub<Pass = P>, R: Wait>(
+pub(crate) fn settle<P: PassView + Drop, H: Hub<Pass = P>, R: Wait>(
     service: &Service<'_, H, R>,
     desk: &mut Desk<P>,
     settled: &Settled,

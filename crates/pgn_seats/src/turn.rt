@@ -26,7 +26,7 @@ use std::sync::Wait;
 
 // A turn of a desk: what is next in its inbox is done and told, or, where nothing is there, what its session hears. The error is that memory
 // did not suffice, or that the run was called off: what was told are whole turns then.
-pub(crate) fn take_turn<P: PassView + Send + Drop, H: Hub<Pass = P>, R: Wait>(
+pub(crate) fn take_turn<P: PassView + Drop, H: Hub<Pass = P>, R: Wait>(
     service: &Service<'_, H, R>,
     desk: &mut Desk<P>,
     tells: &mut OutletPass<Saying>,
@@ -52,7 +52,7 @@ pub(crate) fn take_turn<P: PassView + Send + Drop, H: Hub<Pass = P>, R: Wait>(
 }
 
 // The same for a desk that serves.
-fn serve_next<P: PassView + Send + Drop, H: Hub<Pass = P>, R: Wait>(
+fn serve_next<P: PassView + Drop, H: Hub<Pass = P>, R: Wait>(
     service: &Service<'_, H, R>,
     desk: &mut Desk<P>,
     tells: &mut OutletPass<Saying>,
@@ -113,7 +113,7 @@ fn take_ask<R: Wait>(
 }
 
 // Does what was asked, and tells it.
-fn serve<P: PassView + Send + Drop, H: Hub<Pass = P>, R: Wait>(
+fn serve<P: PassView + Drop, H: Hub<Pass = P>, R: Wait>(
     service: &Service<'_, H, R>,
     desk: &mut Desk<P>,
     ask: &Ask,

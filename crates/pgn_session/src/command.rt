@@ -25,7 +25,7 @@ pub(crate) struct NextCommand {
 }
 
 // A line with a command.
-impl<P: PassView + Send + Drop> Session<P> {
+impl<P: PassView + Drop> Session<P> {
     /// Has the block answer a command.
     pub(crate) fn run<H: Hub<Pass = P>, R: Wait>(
         &mut self,

@@ -19,7 +19,7 @@ pub(crate) struct Commit {
     pub(crate) tag: Tag,
 }
 
-impl<P: PassView + Send + Drop> Session<P> {
+impl<P: PassView + Drop> Session<P> {
     /// Commits a transaction, and records its line: the session becomes a listener, where an action listens; the notifications are
     /// sent; the actions take effect, unless the queue was full; a listener whose set is then empty leaves, and another one tells its
     /// channels, where there were actions. It takes no memory.
@@ -86,7 +86,7 @@ fn is_to_enlist(actions: &[Action], mark: Option<Xid>) -> bool
 }
 
 // A session that is no listener becomes one where an action listens.
-fn enlist_where_it_listens<P: PassView + Send + Drop, H: Hub<Pass = P>>(
+fn enlist_where_it_listens<P: PassView + Drop, H: Hub<Pass = P>>(
     hub: &H,
     pass: &mut P,
     actions: &[Action],
@@ -104,7 +104,7 @@ fn enlist_where_it_listens<P: PassView + Send + Drop, H: Hub<Pass = P>>(
 }
 
 // The notifications are published, or meet a full queue.
-fn send<P: PassView + Send + Drop, H: Hub<Pass = P>, R: Wait>(
+fn send<P: PassView + Drop, H: Hub<Pass = P>, R: Wait>(
     rt: &R,
     hub: &H,
     pass: &mut P,
@@ -141,7 +141,7 @@ fn has_actions(actions: &[Action]) -> bool
 }
 
 // A listener whose set is empty leaves; another one tells its channels, where the transaction had actions. Answers whether it has left.
-fn leave_or_tell<P: PassView + Send + Drop, H: Hub<Pass = P>>(
+fn leave_or_tell<P: PassView + Drop, H: Hub<Pass = P>>(
     hub: &H,
     pass: &mut P,
     set: &ListenSet,

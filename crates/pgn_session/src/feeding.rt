@@ -13,7 +13,7 @@ use std::alloc::AllocError;
 
 // A script may grow while its session runs, as long as its last line is a `\quit` that is still to come. So a line is to come wherever the
 // session has read, and no read was in an open block.
-impl<P: PassView + Send + Drop> Session<P> {
+impl<P: PassView + Drop> Session<P> {
     /// Puts a line into the script, before the `\quit` that ends it. The session's notifications were counted as it began: a line that
     /// notifies has to be one of `note_lines`. The error is that memory did not suffice; nothing has changed then.
     pub fn feed(&mut self, line: ScriptLine) -> Result<(), AllocError>

@@ -16,7 +16,7 @@ use std::alloc::{AllocError, Global};
 
 // A listener that nobody woke may stand behind what was sent before, and the next line may add a channel on which some of that was sent.
 // So what was sent before is read with the set as it is, before such a line: a LISTEN outside a block, or one that opens a block.
-impl<P: PassView + Send + Drop> Session<P> {
+impl<P: PassView + Drop> Session<P> {
     /// Reads before a line that listens or opens a block, where no block is open. The error is that memory did not suffice; then the
     /// mark stays.
     pub fn read_before_line<H: Hub<Pass = P>>(

@@ -16,7 +16,7 @@
 //! A caller: a session that is over reads once more and hands out its trace.
 //!
 //! ```
-//! fn last_trace<P: PassView + Send + Drop, H: Hub<Pass = P>>(
+//! fn last_trace<P: PassView + Drop, H: Hub<Pass = P>>(
 //!     alloc: Global,
 //!     hub: &H,
 //!     mut session: Session<P>,

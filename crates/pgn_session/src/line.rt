@@ -22,7 +22,7 @@ pub(crate) fn put(items: &mut Vec<Item>, item: Item)
 }
 
 /// Raises a flag, and records its line.
-pub(crate) fn signal<P: PassView + Send + Drop, H: Hub<Pass = P>>(
+pub(crate) fn signal<P: PassView + Drop, H: Hub<Pass = P>>(
     hub: &H,
     pass: &mut P,
     items: &mut Vec<Item>,
@@ -59,7 +59,7 @@ pub(crate) fn show_look(items: &mut Vec<Item>, found: &Option<Xid>, looks: u64, 
 }
 
 /// Leaves, where the session is a listener, and records its line.
-pub(crate) fn quit<P: PassView + Send + Drop, H: Hub<Pass = P>>(
+pub(crate) fn quit<P: PassView + Drop, H: Hub<Pass = P>>(
     hub: &H,
     pass: &mut P,
     items: &mut Vec<Item>,
@@ -80,7 +80,7 @@ pub(crate) fn quit<P: PassView + Send + Drop, H: Hub<Pass = P>>(
 }
 
 /// Shows the queue's usage, and records its line.
-pub(crate) fn measure<P: PassView + Send + Drop, H: Hub<Pass = P>, R: Wait>(
+pub(crate) fn measure<P: PassView + Drop, H: Hub<Pass = P>, R: Wait>(
     rt: &R,
     hub: &H,
     pass: &mut P,
@@ -104,7 +104,7 @@ pub(crate) fn measure<P: PassView + Send + Drop, H: Hub<Pass = P>, R: Wait>(
 }
 
 /// Looks at the end flags of the sessions behind the first ones, in order, until a look gives nothing: answers how many were found.
-pub(crate) fn find_ends<P: PassView + Send + Drop, H: Hub<Pass = P>>(
+pub(crate) fn find_ends<P: PassView + Drop, H: Hub<Pass = P>>(
     hub: &H,
     pass: &mut P,
     plan: FlagPlan,

@@ -17,7 +17,7 @@ pub(crate) struct Reading<'a, H> {
 }
 
 /// Reads on from the mark, and records it where the mark has moved: answers the new mark.
-pub(crate) fn read_on<P: PassView + Send + Drop, H: Hub<Pass = P>>(
+pub(crate) fn read_on<P: PassView + Drop, H: Hub<Pass = P>>(
     reading: Reading<'_, H>,
     pass: &mut P,
     set: &ListenSet,

@@ -47,7 +47,7 @@ pub struct Session<P> {
     pub doing: Doing,
 }
 
-impl<P: PassView + Send + Drop> Session<P> {
+impl<P: PassView + Drop> Session<P> {
     /// A session before the first line of its script, with its pass as the hub was opened. Hashes are made with this seed. The error is that memory did not
     /// suffice; the pass and the section are then dropped.
     pub fn new(
@@ -219,7 +219,7 @@ fn first_room(alloc: Global, lines: usize) -> Result<Vec<Item>, AllocError>
 }
 
 /// Raises the end flag of a session.
-pub(crate) fn raise_end<P: PassView + Send + Drop, H: Hub<Pass = P>>(
+pub(crate) fn raise_end<P: PassView + Drop, H: Hub<Pass = P>>(
     hub: &H,
     pass: &mut P,
     session: SessionNo,

@@ -12,7 +12,7 @@ use std::time::Duration;
 
 // Between two looks at a flag a session may sleep. A flag that was raised stays so: where the look behind a sleep finds nothing, no look in
 // that time would have found it. So the sleep counts as one look a microsecond, and the last look that the patience allows is made.
-impl<P: PassView + Send + Drop> Session<P> {
+impl<P: PassView + Drop> Session<P> {
     /// Sleeps on the flag that the session waits for, and counts nothing: so many microseconds at most, and not longer than looks of its
     /// patience are left. A raise ends it. Answers for how many microseconds at most, and 0 where it waits for none.
     pub fn sleep<H: Hub<Pass = P>, R: Wait>(&self, rt: &R, hub: &H, micros: u64) -> u64

@@ -21,7 +21,7 @@ use std::mem;
 use std::sync::Wait;
 
 // What a step does, by where the session stands in its script. Each method is called with the place taken out, and puts the new one in.
-impl<P: PassView + Send + Drop> Session<P> {
+impl<P: PassView + Drop> Session<P> {
     /// Takes the next line of the script, or looks once more for an awaited flag, or waits for the others at the end. It is refused
     /// where memory does not suffice, and a further look where the run was called off. All memory is taken before a call on the hub that
     /// changes anything, so that after a refusal the pass and the trace are as they were; a commit that the block has handed out is kept

@@ -12,7 +12,7 @@ use std::time::Clock;
 /// Waits after a round of turns of all these sessions on one thread, in which none did more than wait: it gives way behind the first such
 /// rounds, and then it sleeps. `waits` of them came before it in a row; answers how many there are with it, and 0 where the round gave
 /// something.
-pub fn wait_together<P: PassView + Send + Drop, H: Hub<Pass = P>, R: Wait + Clock>(
+pub fn wait_together<P: PassView + Drop, H: Hub<Pass = P>, R: Wait + Clock>(
     rt: &R,
     hub: &H,
     sessions: &mut [Session<P>],
@@ -35,7 +35,7 @@ pub fn wait_together<P: PassView + Send + Drop, H: Hub<Pass = P>, R: Wait + Cloc
 
 // Gives way behind the first rounds in which none did more than wait, and sleeps behind the others. Several sessions that share the thread
 // look at all that they wait for at least each millisecond.
-fn give_way<P: PassView + Send + Drop, H: Hub<Pass = P>, R: Wait + Clock>(
+fn give_way<P: PassView + Drop, H: Hub<Pass = P>, R: Wait + Clock>(
     rt: &R,
     hub: &H,
     sessions: &mut [Session<P>],
@@ -57,7 +57,7 @@ fn give_way<P: PassView + Send + Drop, H: Hub<Pass = P>, R: Wait + Clock>(
 }
 
 // Waits as the only session does that its thread has.
-fn wait_alone<P: PassView + Send + Drop, H: Hub<Pass = P>, R: Wait + Clock>(
+fn wait_alone<P: PassView + Drop, H: Hub<Pass = P>, R: Wait + Clock>(
     rt: &R,
     hub: &H,
     sessions: &mut [Session<P>],
@@ -72,7 +72,7 @@ fn wait_alone<P: PassView + Send + Drop, H: Hub<Pass = P>, R: Wait + Clock>(
 
 // Sleeps on the flag of one session, and counts the sleep for each: no flag falls, so no look of any of them would have found more than
 // the one behind the sleep.
-fn rest_together<P: PassView + Send + Drop, H: Hub<Pass = P>, R: Wait>(
+fn rest_together<P: PassView + Drop, H: Hub<Pass = P>, R: Wait>(
     rt: &R,
     hub: &H,
     sessions: &mut [Session<P>],
@@ -87,7 +87,7 @@ fn rest_together<P: PassView + Send + Drop, H: Hub<Pass = P>, R: Wait>(
 }
 
 // Sleeps on the flag of the first session that waits for one: answers for how many microseconds at most.
-fn sleep_on_one<P: PassView + Send + Drop, H: Hub<Pass = P>, R: Wait>(
+fn sleep_on_one<P: PassView + Drop, H: Hub<Pass = P>, R: Wait>(
     rt: &R,
     hub: &H,
     sessions: &[Session<P>],
@@ -106,7 +106,7 @@ fn sleep_on_one<P: PassView + Send + Drop, H: Hub<Pass = P>, R: Wait>(
 }
 
 // Counts a sleep for each session.
-fn sleep_over_all<P: PassView + Send + Drop>(sessions: &mut [Session<P>], micros: u64)
+fn sleep_over_all<P: PassView + Drop>(sessions: &mut [Session<P>], micros: u64)
     ensures { sessions.new ≡ map (slept micros) sessions.old }
 {
     for session in sessions.iter_mut() {
@@ -115,10 +115,7 @@ fn sleep_over_all<P: PassView + Send + Drop>(sessions: &mut [Session<P>], micros
 }
 
 /// Raises the end flag of each session after a refusal, so that no other waits for it.
-pub fn give_up_all<P: PassView + Send + Drop, H: Hub<Pass = P>>(
-    hub: &H,
-    sessions: &mut [Session<P>],
-)
+pub fn give_up_all<P: PassView + Drop, H: Hub<Pass = P>>(hub: &H, sessions: &mut [Session<P>])
     requires held { All (IsHeld (H.is_pass hub.now) (H.shape hub.now)) sessions.old }
     ensures gave_up { All (HasGivenUp P.known) sessions.new }
     ensures scripts { map script_of sessions.new ≡ map script_of sessions.old }

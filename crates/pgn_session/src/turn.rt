@@ -10,7 +10,7 @@ use std::sync::Wait;
 /// The longest sleep that a wait counts, in microseconds.
 pub const LONGEST_SLEEP: u64 = 1_000_000;
 
-impl<P: PassView + Send + Drop> Session<P> {
+impl<P: PassView + Drop> Session<P> {
     /// A step, with a read before it where the next line asks for one, and a read behind it where the session was woken, unless it is over.
     /// The error is that memory did not suffice for one of them, or that the run was called off.
     #[tactic(auto, using(crate::proofs::LawfulLaws::turn_laws))]

@@ -59,7 +59,7 @@ pub(crate) fn sleep_together_of(sleeps: u32) -> u64
 
 // A session waits for its flag, and where it listens and may read, for its wake. It looks at both between two waits. Behind long looks in
 // vain it sleeps on its bell: the one wait arms it, and the next one, behind the look at flag and wake, dozes.
-impl<P: PassView + Send + Drop> Session<P> {
+impl<P: PassView + Drop> Session<P> {
     // Waits, where so many waits came before in a row.
     pub(crate) fn wait_once<H: Hub<Pass = P>, R: Wait + Clock>(
         &mut self,

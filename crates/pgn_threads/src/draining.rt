@@ -9,7 +9,7 @@ use std::alloc::{AllocError, Global};
 
 /// Lets sessions that are over hear from each other what each knows of wakes, and then lets each that still listens read once more: it
 /// then has read up to where every one of them knows wakes to be set. The error is that memory did not suffice.
-pub fn drain<P: PassView + Send + Drop, H: Hub<Pass = P>>(
+pub fn drain<P: PassView + Drop, H: Hub<Pass = P>>(
     alloc: Global,
     hub: &H,
     sessions: &mut [Session<P>],
@@ -34,11 +34,7 @@ pub fn drain<P: PassView + Send + Drop, H: Hub<Pass = P>>(
 }
 
 // The session at this place hears from the one before it.
-fn hear_up<P: PassView + Send + Drop, H: Hub<Pass = P>>(
-    hub: &H,
-    sessions: &mut [Session<P>],
-    i: usize,
-)
+fn hear_up<P: PassView + Drop, H: Hub<Pass = P>>(hub: &H, sessions: &mut [Session<P>], i: usize)
     requires over { All (IsOver (H.is_pass hub.now) (H.shape hub.now) P.known) sessions.old }
     requires place { (0 < i) × (i < length sessions.old) }
     ensures over { All (IsOver (H.is_pass hub.now) (H.shape hub.now) P.known) sessions.new }
@@ -51,11 +47,7 @@ fn hear_up<P: PassView + Send + Drop, H: Hub<Pass = P>>(
 }
 
 // The session before this place hears from the one at it.
-fn hear_down<P: PassView + Send + Drop, H: Hub<Pass = P>>(
-    hub: &H,
-    sessions: &mut [Session<P>],
-    i: usize,
-)
+fn hear_down<P: PassView + Drop, H: Hub<Pass = P>>(hub: &H, sessions: &mut [Session<P>], i: usize)
     requires over { All (IsOver (H.is_pass hub.now) (H.shape hub.now) P.known) sessions.old }
     requires place { (0 < i) × (i < length sessions.old) }
     ensures over { All (IsOver (H.is_pass hub.now) (H.shape hub.now) P.known) sessions.new }
@@ -69,7 +61,7 @@ fn hear_down<P: PassView + Send + Drop, H: Hub<Pass = P>>(
 }
 
 // The session at this place reads once more, if it still listens.
-fn read_last<P: PassView + Send + Drop, H: Hub<Pass = P>>(
+fn read_last<P: PassView + Drop, H: Hub<Pass = P>>(
     alloc: Global,
     hub: &H,
     sessions: &mut [Session<P>],

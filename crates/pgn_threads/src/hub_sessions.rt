@@ -3,18 +3,22 @@ ghost use Rattle.pgn_session.specs.Runs.{IsHeld, IsReady};
 ghost use Rattle.pgn_threads.specs.Work.{HasTakenTurn, HaveEnded};
 
 use pgn_hub::{Hub, PassView};
-use pgn_session::{Session, Step, give_up_all};
-use pgn_workers::{Turn, Work};
+use pgn_session::{Session, Step, give_up_all, wait_together, waits_behind};
+use pgn_workers::{Pause, Turn, Work};
 use std::alloc::{AllocError, Global};
 use std::sync::Wait;
+use std::time::Clock;
 
-// The sessions of a hub, as workers. They share nothing but the hub.
+// The sessions of a hub, as workers, and what they share.
 #[derive(Drop)]
-pub(crate) struct HubSessions<'a, H> {
+pub(crate) struct HubSessions<'a, R, H> {
+    pub(crate) rt: &'a R,
+    pub(crate) alloc: Global,
     pub(crate) hub: &'a H,
 }
 
-impl<P: PassView + Send + Drop, H: Hub<Pass = P>> Work<Session<P>, ()> for HubSessions<'_, H> {
+impl<P: PassView + Drop, H: Hub<Pass = P>, R: Wait + Clock> Work<Session<P>, ()>
+    for HubSessions<'_, R, H> {
     ghost use Rattle.std.specs.Prelude.{All};
     ghost use Rattle.pgn_session.specs.Runs.{IsOver, IsReady};
     ghost use Rattle.pgn_threads.specs.Whole.{HaveRun};
@@ -36,6 +40,27 @@ impl<P: PassView + Send + Drop, H: Hub<Pass = P>> Work<Session<P>, ()> for HubSe
 
     ghost joined = { λ c l r h. Unit {0} };
 
+    fn turn(&self, session: &mut Session<P>, hand: &mut ()) -> Result<Turn, AllocError> {
+        let _hand = hand;
+        take_turn(self.rt, self.alloc, self.hub, session)
+    }
+
+    fn wait(&self, sessions: &mut [Session<P>], hand: &mut (), pause: Pause) -> u32 {
+        let _hand = hand;
+        let waits = waits_behind(pause.waits, pause.heard);
+        wait_together(self.rt, self.hub, sessions, Step::Waiting, waits)
+    }
+
+    fn end(
+        &self,
+        sessions: &mut [Session<P>],
+        hand: &mut (),
+        rounds: Result<(), AllocError>,
+    ) -> Result<(), AllocError> {
+        let _hand = hand;
+        end_all(self.hub, sessions, rounds)
+    }
+
     fn cut(&self, hand: &mut (), size: usize) {
         let _hand = hand;
         let _size = size;
@@ -50,7 +75,7 @@ impl<P: PassView + Send + Drop, H: Hub<Pass = P>> Work<Session<P>, ()> for HubSe
 }
 
 // A step of a session, with the reads before and behind it. What it has shown while it waited, it has heard.
-pub(crate) fn take_turn<P: PassView + Send + Drop, H: Hub<Pass = P>, R: Wait>(
+pub(crate) fn take_turn<P: PassView + Drop, H: Hub<Pass = P>, R: Wait>(
     rt: &R,
     alloc: Global,
     hub: &H,
@@ -76,7 +101,7 @@ fn as_turn(step: Step, heard: bool) -> Turn
 }
 
 // The end of sessions that are over, or one of which was refused memory: then all raise their end flags.
-pub(crate) fn end_all<P: PassView + Send + Drop, H: Hub<Pass = P>>(
+pub(crate) fn end_all<P: PassView + Drop, H: Hub<Pass = P>>(
     hub: &H,
     sessions: &mut [Session<P>],
     rounds: Result<(), AllocError>,

@@ -35,7 +35,7 @@ pub(crate) struct Shared {
 }
 
 /// A session for each section, which it takes, before the first line of its script, with its pass as the hub was opened.
-pub(crate) fn open_sessions<P: PassView + Send + Drop>(
+pub(crate) fn open_sessions<P: PassView + Drop>(
     alloc: Global,
     passes: Vec<P>,
     sections: Vec<Section>,
@@ -66,7 +66,7 @@ pub(crate) fn open_sessions<P: PassView + Send + Drop>(
 }
 
 /// The passes of sessions, their traces, and their sections.
-pub(crate) fn logs<P: PassView + Send + Drop>(
+pub(crate) fn logs<P: PassView + Drop>(
     alloc: Global,
     sessions: Vec<Session<P>>,
 ) -> Result<(Vec<P>, Vec<Trace>, Vec<Section>), AllocError>
@@ -89,7 +89,7 @@ pub(crate) fn logs<P: PassView + Send + Drop>(
 }
 
 // Takes each session apart.
-fn log_each<P: PassView + Send + Drop>(
+fn log_each<P: PassView + Drop>(
     sessions: Vec<Session<P>>,
     passes: &mut Vec<P>,
     traces: &mut Vec<Trace>,
@@ -108,7 +108,7 @@ fn log_each<P: PassView + Send + Drop>(
 }
 
 // Keeps the pass of a session, its trace, and its section.
-fn keep<P: PassView + Send + Drop>(
+fn keep<P: PassView + Drop>(
     session: Session<P>,
     passes: &mut Vec<P>,
     traces: &mut Vec<Trace>,
@@ -128,7 +128,7 @@ fn keep<P: PassView + Send + Drop>(
 }
 
 // The pass of a session, its trace, and its section.
-fn log_of<P: PassView + Send + Drop>(session: Session<P>) -> (P, Trace, Section)
+fn log_of<P: PassView + Drop>(session: Session<P>) -> (P, Trace, Section)
     ensures pass { result.0 ≡ session.pass }
     ensures trace { result.1 ≡ trace_of (part_of P.known session) }
     ensures section { result.2 ≡ session.section }

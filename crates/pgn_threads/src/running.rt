@@ -1,11 +1,9 @@
 ghost use Rattle.std.specs.Prelude.{◌≡◌, map, OnOk, OnErr, All, Any};
-ghost use Rattle.pgn_session.specs.Runs.{HasGivenUp, HasStopped, IsHeld, IsReady, IsOver, script_of};
-ghost use Rattle.pgn_threads.specs.Work.{HasTakenTurn, HaveEnded};
+ghost use Rattle.pgn_session.specs.Runs.{HasGivenUp, HasStopped, IsReady, IsOver, script_of};
 
-use crate::hub_sessions::{HubSessions, end_all, take_turn};
+use crate::hub_sessions::HubSessions;
 use pgn_hub::{Hub, PassView};
-use pgn_session::{Session, Step, wait_together, waits_behind};
-use pgn_workers::{Job, Pause, Turn};
+use pgn_session::Session;
 use std::alloc::{AllocError, Global};
 use std::sync::Wait;
 use std::thread::Threads;
@@ -25,37 +23,6 @@ pub fn run_sessions<
     ensures stopped { All (HasStopped (H.is_pass hub.now) (H.shape hub.now) P.known) sessions.new }
     ensures gave_up { OnErr result (Any (HasGivenUp P.known) sessions.new) }
 {
-    let turn = |session: &mut Session<P>, hand: &mut ()| -> Result<Turn, AllocError>
-        requires { IsReady (H.is_pass hub.now) (H.shape hub.now) P.known session.now }
-        ensures { HasTakenTurn (H.is_pass hub.entry.now) (H.shape hub.entry.now) P.known session.entry.now session.exit.now result }
-    {
-        let _hand = hand;
-        take_turn(rt, alloc, hub, session)
-    };
-    let wait = |sessions: &mut [Session<P>], hand: &mut (), pause: Pause| -> u32
-        requires { All (IsReady (H.is_pass hub.now) (H.shape hub.now) P.known) sessions.now }
-        ensures { All (IsReady (H.is_pass hub.entry.now) (H.shape hub.entry.now) P.known) sessions.exit.now × (map script_of sessions.exit.now ≡ map script_of sessions.entry.now) }
-    {
-        let _hand = hand;
-        let waits = waits_behind(pause.waits, pause.heard);
-        wait_together(rt, hub, sessions, Step::Waiting, waits)
-    };
-    let end = |sessions: &mut [Session<P>], hand: &mut (), rounds: Result<
-        (),
-        AllocError,
-    >| -> Result<(), AllocError>
-        requires { OnErr rounds (All (IsHeld (H.is_pass hub.now) (H.shape hub.now)) sessions.now) }
-        ensures { HaveEnded P.known sessions.entry.now sessions.exit.now rounds result }
-    {
-        let _hand = hand;
-        end_all(hub, sessions, rounds)
-    };
-    let work = HubSessions { hub };
-    let job = Job {
-        work,
-        turn,
-        wait,
-        end,
-    };
-    pgn_workers::run(rt, &job, sessions, &mut ())
+    let work = HubSessions { rt, alloc, hub };
+    pgn_workers::run(rt, &work, sessions, &mut ())
 }

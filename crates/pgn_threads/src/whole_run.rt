@@ -11,7 +11,7 @@ ghost use Rattle.pgn_threads.specs.Opened.{plan_for, scenario_of, script_for, sh
 use crate::opening::{Shared, logs, open_sessions, seats_for};
 use crate::{drain, run_sessions};
 use pgn_base::{Copied, Format, Names, Seed};
-use pgn_hub::{Hub, Setup};
+use pgn_hub::{Hub, PassView, Setup};
 use pgn_journal::Tx;
 use pgn_language::{Scenario, Sections};
 use pgn_merge::merge;
@@ -32,7 +32,11 @@ pub struct Run {
 /// Runs a scenario over a hub of this type, which it opens with a limit of so many pages and entries of this format: its sessions run
 /// side by side, as `run_sessions` has it, and an await takes so many looks, made or slept over. Hashes are made with this seed. The
 /// sessions take the scripts, and the scenario is given back. The error is that memory did not suffice; the scenario is then dropped.
-pub fn run_on_hub<H: Hub + Sync + Drop, R: Threads + Wait + Clock + Sync>(
+pub fn run_on_hub<
+    P: PassView + Send + Drop,
+    H: Hub<Pass = P> + Sync + Drop,
+    R: Threads + Wait + Clock + Sync,
+>(
     rt: &R,
     alloc: Global,
     seed: Seed,
@@ -57,7 +61,7 @@ pub fn run_on_hub<H: Hub + Sync + Drop, R: Threads + Wait + Clock + Sync>(
         patience,
         format,
     };
-    match run_opened::<H, R>(rt, alloc, opening, sections, &flags) {
+    match run_opened::<_, H, R>(rt, alloc, opening, sections, &flags) {
         Ok((run, sections)) => Ok((Scenario { sections, flags }, run)),
         Err(error) => {
             drop(flags);
@@ -67,7 +71,11 @@ pub fn run_on_hub<H: Hub + Sync + Drop, R: Threads + Wait + Clock + Sync>(
 }
 
 // Runs the scenario of these sections and flags, as `run_on_hub` has it. The sessions take the sections, which are given back.
-fn run_opened<H: Hub + Sync + Drop, R: Threads + Wait + Clock + Sync>(
+fn run_opened<
+    P: PassView + Send + Drop,
+    H: Hub<Pass = P> + Sync + Drop,
+    R: Threads + Wait + Clock + Sync,
+>(
     rt: &R,
     alloc: Global,
     opening: Opening,

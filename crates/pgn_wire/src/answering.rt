@@ -20,7 +20,7 @@ use std::alloc::{AllocError, Global};
 use std::sync::Wait;
 
 // Takes a query, and sends its whole answer. Where memory does not suffice, nothing of the answer is sent.
-pub(crate) fn one_query<P: PassView + Send + Drop, H: Hub<Pass = P>, R: Wait, K: Sink>(
+pub(crate) fn one_query<P: PassView + Drop, H: Hub<Pass = P>, R: Wait, K: Sink>(
     host: &Host<'_, H, R>,
     session: &mut Session<P>,
     line: ScriptLine,
@@ -58,7 +58,7 @@ pub(crate) fn one_query<P: PassView + Send + Drop, H: Hub<Pass = P>, R: Wait, K:
 }
 
 // Takes a query, and makes its whole answer. Where memory does not suffice, what was answered so far are whole answers.
-fn answered<P: PassView + Send + Drop, H: Hub<Pass = P>, R: Wait>(
+fn answered<P: PassView + Drop, H: Hub<Pass = P>, R: Wait>(
     host: &Host<'_, H, R>,
     session: &mut Session<P>,
     line: ScriptLine,

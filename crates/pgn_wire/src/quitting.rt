@@ -11,7 +11,7 @@ use std::alloc::{AllocError, Global};
 use std::sync::Wait;
 
 // Lets the session take the `\quit` that ends its script.
-pub(crate) fn quit<P: PassView + Send + Drop, H: Hub<Pass = P>, R: Wait>(
+pub(crate) fn quit<P: PassView + Drop, H: Hub<Pass = P>, R: Wait>(
     rt: &R,
     alloc: Global,
     hub: &H,

@@ -19,7 +19,7 @@ use std::sync::Wait;
 
 /// Serves a client until it ends: each query is answered before the next is read. The session's script is a `\quit`, before which the
 /// queries are put; as many of them may notify as its section says. At the end the session is over; after an error its trace so far is lawful.
-pub fn serve_wire<P: PassView + Send + Drop, H: Hub<Pass = P>, R: Wait, S: Source, K: Sink>(
+pub fn serve_wire<P: PassView + Drop, H: Hub<Pass = P>, R: Wait, S: Source, K: Sink>(
     rt: &R,
     alloc: Global,
     hub: &H,
@@ -64,7 +64,7 @@ pub fn serve_wire<P: PassView + Send + Drop, H: Hub<Pass = P>, R: Wait, S: Sourc
 }
 
 // Answers query after query, until there is none.
-fn converse<P: PassView + Send + Drop, H: Hub<Pass = P>, R: Wait, S: Source, K: Sink>(
+fn converse<P: PassView + Drop, H: Hub<Pass = P>, R: Wait, S: Source, K: Sink>(
     host: &Host<'_, H, R>,
     session: &mut Session<P>,
     source: &mut S,

@@ -13,7 +13,7 @@ use std::alloc::{AllocError, Global};
 use std::sync::Wait;
 
 // Puts a query's line into the script, lets the session take it, and lets it read where it was woken.
-pub(crate) fn take_query<P: PassView + Send + Drop, H: Hub<Pass = P>, R: Wait>(
+pub(crate) fn take_query<P: PassView + Drop, H: Hub<Pass = P>, R: Wait>(
     rt: &R,
     alloc: Global,
     hub: &H,
@@ -39,7 +39,7 @@ pub(crate) fn take_query<P: PassView + Send + Drop, H: Hub<Pass = P>, R: Wait>(
 }
 
 // Reads where the session was woken and, outside a block, what was sent before: so a later LISTEN brings nothing that is older than it.
-fn read_behind<P: PassView + Send + Drop, H: Hub<Pass = P>>(
+fn read_behind<P: PassView + Drop, H: Hub<Pass = P>>(
     alloc: Global,
     hub: &H,
     session: &mut Session<P>,

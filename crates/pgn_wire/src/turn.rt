@@ -20,7 +20,7 @@ use std::alloc::Global;
 use std::sync::Wait;
 
 // Reads the next query and answers it, and says whether there was one.
-pub(crate) fn take_turn<P: PassView + Send + Drop, H: Hub<Pass = P>, R: Wait, S: Source, K: Sink>(
+pub(crate) fn take_turn<P: PassView + Drop, H: Hub<Pass = P>, R: Wait, S: Source, K: Sink>(
     host: &Host<'_, H, R>,
     session: &mut Session<P>,
     queries: &mut Queries,

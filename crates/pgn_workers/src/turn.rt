@@ -15,6 +15,13 @@ pub enum Turn {
     Ended,
 }
 
+/// How often in a row, before this time, nothing was done in a round, and whether something was heard in the last one.
+#[derive(Clone, Copy)]
+pub struct Pause {
+    pub heard: bool,
+    pub waits: u32,
+}
+
 impl Turn {
     /// A turn in which nothing was done but to wait.
     pub fn waited(heard: bool) -> Turn

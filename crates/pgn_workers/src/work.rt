@@ -1,10 +1,13 @@
-ghost use Rattle.std.specs.Prelude.{◌≡◌, List, ◌++◌, length, Result, All};
+ghost use Rattle.std.specs.Prelude.{◌≡◌, List, [], ◌∷◌, ◌++◌, length, Result, Ok, OnOk, All};
 ghost use Rattle.std.specs.Result.{result_and};
 ghost use Rattle.std.specs.declared.alloc.AllocError.{AllocError};
-ghost use Rattle.pgn_workers.specs.Parts.{Part, part, AreOfHalves, StandsFor};
+ghost use Rattle.pgn_workers.specs.Parts.{Part, part, AreOfHalves, HasTakenRounds, StandsFor};
 
-/// What workers are and come to that take turns again and again until all are over. A part of the workers has a hand, which they share: what
-/// they have in common while they take turns on one thread. Who takes a turn stands in `Job`.
+use crate::{Pause, Turn};
+use std::alloc::AllocError;
+
+/// What workers are and come to that take turns again and again until all are over, and what a turn does, how workers wait that had nothing
+/// to do, and how they end. A part of the workers has a hand, which they share: what they have in common while they take turns on one thread.
 pub trait Work<W, A> {
     /// The part may begin.
     ghost begins: { Self → Part W A → Type 0 };
@@ -28,6 +31,35 @@ pub trait Work<W, A> {
 
     /// The hands of two parts were made one.
     ghost joined: { Self → A → A → A → Type 0 };
+
+    /// A turn of one worker.
+    fn turn(&self, worker: &mut W, hand: &mut A) -> Result<Turn, AllocError>
+        requires { goes self.now (part (worker.old ∷ []) hand.old) }
+        ensures took { took self.now (part (worker.old ∷ []) hand.old)
+            (part (worker.new ∷ []) hand.new) }
+        ensures ready { OnOk result (ready self.now worker.new) }
+        ensures over { result ≡ Ok Turn.Ended → over self.now worker.new };
+
+    /// A wait behind a round in which nothing was done. It answers how many such rounds came in a row.
+    fn wait(&self, workers: &mut [W], hand: &mut A, pause: Pause) -> u32
+        requires { goes self.now (part workers.old hand.old) }
+        ensures took { took self.now (part workers.old hand.old) (part workers.new hand.new) }
+        ensures ready { All (ready self.now) workers.new };
+
+    /// The end of a part whose workers are all over, or one of which was refused memory.
+    fn end(
+        &self,
+        workers: &mut [W],
+        hand: &mut A,
+        rounds: Result<(), AllocError>,
+    ) -> Result<(), AllocError>
+        requires { (old : Part W A)
+            × HasTakenRounds (begins self.now) (took self.now) (over self.now) old
+            (part workers.old hand.old) rounds }
+        ensures { (old : Part W A)
+            → HasTakenRounds (begins self.now) (took self.now) (over self.now) old
+            (part workers.old hand.old) rounds
+            → ran self.now old (part workers.new hand.new) result };
 
     /// Cuts the hand of workers that have not begun: it becomes that of the first of them, so many, and the answer is that of the others.
     fn cut(&self, hand: &mut A, size: usize) -> A

@@ -8,7 +8,7 @@ use Rattle.pgn_frames.proofs.ReadingLaws.{Reads-none, Told-done, Told-failed, To
 use Rattle.pgn_frames.proofs.reading.read_frames.Goals as goal
 
 pub read_on-read-requires-clause-on : goal.read_on-read-requires-clause-on
-read_on-read-requires-clause-on g c κs within = on_none c.requires.call.0 c.args.inboxes.now c.args.callers.now c.requires.call.1
+read_on-read-requires-clause-on g c = on_none c.requires.call.0 c.args.inboxes.now c.args.callers.now c.requires.call.1
 
 pub returns-in-Err-Memory-clause-some : goal.returns-in-Err-Memory-clause-some
 returns-in-Err-Memory-clause-some g c = λ most may e.

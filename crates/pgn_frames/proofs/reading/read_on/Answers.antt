@@ -18,16 +18,16 @@ pub loop-init : goal.loop-init
 loop-init g c = record { size = refl; on = c.requires.on; reads = λ most bytes h. h; same = refl }
 
 pub read_one-requires-clause-each : goal.read_one-requires-clause-each
-read_one-requires-clause-each g c κs within = c.requires.each ∙ sym c.loop.invariant.size
+read_one-requires-clause-each g c = c.requires.each ∙ sym c.loop.invariant.size
 
 pub read_one-requires-clause-few : goal.read_one-requires-clause-few
-read_one-requires-clause-few g c κs within = subst (λ (n : ℕ). n ≤ 256) (sym c.loop.invariant.size) c.requires.few
+read_one-requires-clause-few g c = subst (λ (n : ℕ). n ≤ 256) (sym c.loop.invariant.size) c.requires.few
 
 pub read_one-requires-clause-on : goal.read_one-requires-clause-on
-read_one-requires-clause-on g c κs within = c.loop.invariant.on
+read_one-requires-clause-on g c = c.loop.invariant.on
 
 pub read_one-requires-clause-seats : goal.read_one-requires-clause-seats
-read_one-requires-clause-seats g c κs within = c.requires.seats ∙ sym c.loop.invariant.size
+read_one-requires-clause-seats g c = c.requires.seats ∙ sym c.loop.invariant.size
 
 pub loop-preserved : goal.loop-preserved
 loop-preserved g c =

@@ -9,7 +9,7 @@ use Rattle.pgn_frames.proofs.ReadingLaws.{Reads-end, Reads-fault, Reads-more, Re
 use Rattle.pgn_frames.proofs.reading.read_one.Goals as goal
 
 pub take_frame-requires-clause-on : goal.take_frame-requires-clause-on
-take_frame-requires-clause-on g c κs within = c.requires.on
+take_frame-requires-clause-on g c = c.requires.on
 
 pub returns-in-Ok-clause-on : goal.returns-in-Ok-clause-on
 returns-in-Ok-clause-on g c = λ other. c.in-Ok.ensures.on

@@ -9,5 +9,5 @@ join_mut-requires-after_bounds g c κs within = (
     c.requires.may,
     ((record { owned = c.type_bounds.send-P.owned; leaving = λ k. Quiet-if (k (of_param 0)) _ _ (λ x w. tt) (λ x w. tt) }), (record { owned = c.type_bounds.send-K.owned; leaving = λ k. Quiet-if (k (of_param 3)) _ _ (λ x w. tt) (λ x w. tt) }), search rules, search rules),
   ),
-  ((c.requires.call, c.requires.seats), ((record { owned = c.type_bounds.send-P.owned; leaving = λ k. Quiet-if (k (of_param 0)) _ _ (λ x w. tt) (λ x w. tt) }), search rules, search rules)),
+  (c.requires.call, c.requires.seats),
 )

@@ -7,16 +7,18 @@ use Rattle.pgn_run.specs.Closing.{MayClose}
 use Rattle.pgn_run.proofs.ClosingLaws.{all-passes, all-took, next-of, one-closed}
 use Rattle.pgn_run.proofs.closing.leave_each.Goals as goal
 
-pub leave-pass-requires-clause-close : goal.leave-pass-requires-clause-close
-leave-pass-requires-clause-close g c κs within =
-    let place = c.loop-place.place in
-    let box : place < length c.args.inboxes.now = omega (arith, c.loop-place-test.true) in
-    let desk = (next-of c.args.desks.now.rest.items c.loop-place.desks.rest.items place c.in-Some.desk c.next.new.self.rest.items c.in-Some.desk (omega (arith, box, c.requires.close.desk_count)) c.loop-place.invariant.desks_are c.in-Some.ensures.items).0 in
-    let caller = (next-of c.args.callers.now.rest.items c.loop-place.callers.rest.items place c.in-Some-next.caller c.next-in-loop-place.new.self.rest.items c.in-Some-next.caller (omega (arith, box, c.requires.close.caller_count)) c.loop-place.invariant.callers_are c.in-Some-next.ensures.items).0 in
-    subst (λ (i : Outlet (Option Ask)). MayClose i c.in-Some.desk c.in-Some-next.caller) (sym c.index-inboxes-place.is)
-    (subst (λ (d : Desk g.row.P.Denot). MayClose (get_or c.args.inboxes.now place c.index-inboxes-place.result) d c.in-Some-next.caller) (sym desk)
-    (subst (λ (x : Caller). MayClose (get_or c.args.inboxes.now place c.index-inboxes-place.result) (get_or c.args.desks.now.rest.items place c.in-Some.desk) x) (sym caller)
-    (c.requires.close.each place c.index-inboxes-place.result c.in-Some.desk c.in-Some-next.caller box)))
+pub leave-pass-requires : goal.leave-pass-requires
+leave-pass-requires g c = record {
+  close =
+      let place = c.loop-place.place in
+      let box : place < length c.args.inboxes.now = omega (arith, c.loop-place-test.true) in
+      let desk = (next-of c.args.desks.now.rest.items c.loop-place.desks.rest.items place c.in-Some.desk c.next.new.self.rest.items c.in-Some.desk (omega (arith, box, c.requires.close.desk_count)) c.loop-place.invariant.desks_are c.in-Some.ensures.items).0 in
+      let caller = (next-of c.args.callers.now.rest.items c.loop-place.callers.rest.items place c.in-Some-next.caller c.next-in-loop-place.new.self.rest.items c.in-Some-next.caller (omega (arith, box, c.requires.close.caller_count)) c.loop-place.invariant.callers_are c.in-Some-next.ensures.items).0 in
+      subst (λ (i : Outlet (Option Ask)). MayClose i c.in-Some.desk c.in-Some-next.caller) (sym c.index-inboxes-place.is)
+      (subst (λ (d : Desk g.row.P.Denot). MayClose (get_or c.args.inboxes.now place c.index-inboxes-place.result) d c.in-Some-next.caller) (sym desk)
+      (subst (λ (x : Caller). MayClose (get_or c.args.inboxes.now place c.index-inboxes-place.result) (get_or c.args.desks.now.rest.items place c.in-Some.desk) x) (sym caller)
+      (c.requires.close.each place c.index-inboxes-place.result c.in-Some.desk c.in-Some-next.caller box)));
+}
 
 pub loop-place-preserved : goal.loop-place-preserved
 loop-place-preserved g c =

@@ -34,22 +34,22 @@ no-write : {A T : Type 0} (r : Result T WireEnd) → r ≡ Err end.Memory → r 
 no-write r is e = absurd (cc)
 
 pub finish-requires-clause-shape : goal.finish-requires-clause-shape
-finish-requires-clause-shape g c κs within = c.in-Ok.ensures.shape
+finish-requires-clause-shape g c = c.in-Ok.ensures.shape
 
 pub finish-requires-clause-own : goal.finish-requires-clause-own
-finish-requires-clause-own g c κs within = c.serve_wire.ensures.own
+finish-requires-clause-own g c = c.serve_wire.ensures.own
 
 pub finish-requires-clause-rested : goal.finish-requires-clause-rested
-finish-requires-clause-rested g c κs within = c.in-Ok-serve_wire.ensures.rested
+finish-requires-clause-rested g c = c.in-Ok-serve_wire.ensures.rested
 
 pub finish-requires-clause-number : goal.finish-requires-clause-number
-finish-requires-clause-number g c κs within = ap (λ (s : Section). s.no) (c.serve_wire.ensures.same.section) ∙ ap (λ (s : Section). s.no) c.in-Ok.ensures.section
+finish-requires-clause-number g c = ap (λ (s : Section). s.no) (c.serve_wire.ensures.same.section) ∙ ap (λ (s : Section). s.no) c.in-Ok.ensures.section
 
 pub finish-requires-clause-plan : goal.finish-requires-clause-plan
-finish-requires-clause-plan g c κs within = c.serve_wire.ensures.same.plan ∙ c.in-Ok.ensures.plan
+finish-requires-clause-plan g c = c.serve_wire.ensures.same.plan ∙ c.in-Ok.ensures.plan
 
 pub finish-requires-clause-patience : goal.finish-requires-clause-patience
-finish-requires-clause-patience g c κs within = c.serve_wire.ensures.same.patience ∙ c.in-Ok.ensures.patience
+finish-requires-clause-patience g c = c.serve_wire.ensures.same.patience ∙ c.in-Ok.ensures.patience
 
 pub returns-in-Ok-finish-clause-read : goal.returns-in-Ok-finish-clause-read
 returns-in-Ok-finish-clause-read g c = λ e. no-end _ _ e

@@ -8,5 +8,5 @@ loop-place-preserved g c =
     c.in_ok-session.ensures c.in_ok-sit.ensures
 
 pub session_for-requires-clause-opened : goal.session_for-requires-clause-opened
-session_for-requires-clause-opened g c κs within =
+session_for-requires-clause-opened g c =
     next-known g.P.PassView.known c.args.seats c.loop-place.place c.loop-place.passes.rest.items c.in-Some.pass c.next.new.self.rest.items c.loop-place-test.true c.in-Some.ensures.items c.loop-place.invariant.rest

@@ -41,7 +41,7 @@ run_arms-read-requires-clause-seats g c κs within =
     ∙ sym (ap (λ (cs : List Caller). length cs) c.as_mut_slice-2.ensures.value)
 
 pub close-ran-requires-clause-close : goal.close-ran-requires-clause-close
-close-ran-requires-clause-close g c κs within =
+close-ran-requires-clause-close g c =
     let told = told-moved (g.H.Hub.is_pass c.in-Ok.hub) (g.H.Hub.shape c.in-Ok.hub) g.P.PassView.known c.as_slice.result.now c.in-Ok.seating.inboxes.items c.as_mut_slice.result.now c.in-Ok.seating.desks.items c.run_arms-read.new.desks g.K.Sink.held g.K.Sink.faults c.args.sink.now c.run_arms-read.new.sink c.run_arms-read.result.0 c.as_slice.ensures.value c.as_mut_slice.ensures.value c.run_arms-read.ensures.told in
     let read = read-moved g.S.Source.left g.S.Source.faults c.as_slice.result.now c.in-Ok.seating.inboxes.items c.as_mut_slice-2.result.now c.in-Ok.seating.callers.items c.run_arms-read.new.callers c.args.source.now c.run_arms-read.new.source c.run_arms-read.result.1 c.as_slice.ensures.value c.as_mut_slice-2.ensures.value c.run_arms-read.ensures.read in
     let all = read.read (seat_notes c.args.seats) (may-call (g.H.Hub.is_pass c.in-Ok.hub) (g.H.Hub.shape c.in-Ok.hub) g.P.PassView.known c.args.seats c.in-Ok.seating.inboxes.items c.in-Ok.seating.desks.items c.in-Ok.seating.callers.items c.in-Ok.ensures c.requires.few) in
@@ -53,7 +53,7 @@ close-ran-requires-clause-close g c κs within =
     (close-now (g.H.Hub.is_pass c.in-Ok.hub) (g.H.Hub.shape c.in-Ok.hub) g.P.PassView.known c.args.seats c.in-Ok.seating.inboxes.items c.in-Ok.seating.desks.items c.run_arms-read.new.desks c.in-Ok.seating.callers.items c.run_arms-read.new.callers g.K.Sink.held g.K.Sink.faults c.args.sink.now c.run_arms-read.new.sink c.run_arms-read.result.0.0 c.run_arms-read.result.0.1 c.in-Ok.ensures told (g.S.Source.left c.args.source.now) c.run_arms-read.result.1 read.count all)
 
 pub close-ran-requires-clause-over : goal.close-ran-requires-clause-over
-close-ran-requires-clause-over g c κs within =
+close-ran-requires-clause-over g c =
     let told = told-moved (g.H.Hub.is_pass c.in-Ok.hub) (g.H.Hub.shape c.in-Ok.hub) g.P.PassView.known c.as_slice.result.now c.in-Ok.seating.inboxes.items c.as_mut_slice.result.now c.in-Ok.seating.desks.items c.run_arms-read.new.desks g.K.Sink.held g.K.Sink.faults c.args.sink.now c.run_arms-read.new.sink c.run_arms-read.result.0 c.as_slice.ensures.value c.as_mut_slice.ensures.value c.run_arms-read.ensures.told in
     let read = read-moved g.S.Source.left g.S.Source.faults c.as_slice.result.now c.in-Ok.seating.inboxes.items c.as_mut_slice-2.result.now c.in-Ok.seating.callers.items c.run_arms-read.new.callers c.args.source.now c.run_arms-read.new.source c.run_arms-read.result.1 c.as_slice.ensures.value c.as_mut_slice-2.ensures.value c.run_arms-read.ensures.read in
     let all = read.read (seat_notes c.args.seats) (may-call (g.H.Hub.is_pass c.in-Ok.hub) (g.H.Hub.shape c.in-Ok.hub) g.P.PassView.known c.args.seats c.in-Ok.seating.inboxes.items c.in-Ok.seating.desks.items c.in-Ok.seating.callers.items c.in-Ok.ensures c.requires.few) in

@@ -11,15 +11,15 @@ use Rattle.pgn_seats.proofs.WorkLaws.{client-fed, client-no, client-read, client
 use Rattle.pgn_seats.proofs.answering.answer.Goals as goal
 
 pub put_query-requires-clause-is_open : goal.put_query-requires-clause-is_open
-put_query-requires-clause-is_open g c κs within = c.requires.may.work.is_open
+put_query-requires-clause-is_open g c = c.requires.may.work.is_open
 
 pub hear_before-requires-clause-may : goal.hear_before-requires-clause-may
-hear_before-requires-clause-may g c κs within =
+hear_before-requires-clause-may g c =
     let fed = client-fed c.args.desk.now.session c.put_query.new.desk.session (line_of c.args.query.now) c.in_ok-put_query.ensures.fed in
     may-at _ _ (knows c.args.tells.now) (sym (client-no c.args.desk.now.session c.put_query.new.desk.session fed)) c.requires.may.may
 
 pub hear_before-requires-clause-line : goal.hear_before-requires-clause-line
-hear_before-requires-clause-line g c κs within =
+hear_before-requires-clause-line g c =
     let shape = g.H.Hub.shape c.args.service.now.hub.now in (
       line_of c.args.query.now,
       line-put (g.H.Hub.is_pass c.args.service.now.hub.now) shape g.P.PassView.known c.args.desk.now.session c.put_query.new.desk.session (line_of c.args.query.now) (c.args.query.now.command, refl) c.requires.may.work
@@ -27,20 +27,20 @@ hear_before-requires-clause-line g c κs within =
     )
 
 pub run_query-requires-clause-may : goal.run_query-requires-clause-may
-run_query-requires-clause-may g c κs within =
+run_query-requires-clause-may g c =
     let fed = client-fed c.args.desk.now.session c.put_query.new.desk.session (line_of c.args.query.now) c.in_ok-put_query.ensures.fed in
     let read = client-read c.put_query.new.desk.session c.hear_before.new.session c.hear_before.ensures.same in
     let all = same-client c.args.desk.now.session c.put_query.new.desk.session c.hear_before.new.session fed read in
     may-at _ _ (knows c.hear_before.new.tells) (sym (client-no c.args.desk.now.session c.hear_before.new.session all)) (may-still _ _ (knows c.args.tells.now) (knows c.hear_before.new.tells) c.hear_before.ensures.alone c.requires.may.may)
 
 pub run_query-requires-clause-line : goal.run_query-requires-clause-line
-run_query-requires-clause-line g c κs within =
+run_query-requires-clause-line g c =
     let shape = g.H.Hub.shape c.args.service.now.hub.now in
     c.hear_before.ensures.line (line_of c.args.query.now) (line-put (g.H.Hub.is_pass c.args.service.now.hub.now) shape g.P.PassView.known c.args.desk.now.session c.put_query.new.desk.session (line_of c.args.query.now)
     (c.args.query.now.command, refl) c.requires.may.work c.in_ok-put_query.ensures.fed (c.in_ok-put_query.ensures.rested shape c.requires.may.work.rested))
 
 pub put_query-requires-clause-counted : goal.put_query-requires-clause-counted
-put_query-requires-clause-counted g c κs within = c.requires.may.counted
+put_query-requires-clause-counted g c = c.requires.may.counted
 
 pub returns-in_err-put_query-clause-tried : goal.returns-in_err-put_query-clause-tried
 returns-in_err-put_query-clause-tried g c = record {

@@ -8,7 +8,7 @@ use Rattle.pgn_seats.proofs.WorkLaws.{no-script, ran-within}
 use Rattle.pgn_seats.proofs.answering.run_query.Goals as goal
 
 pub run_line-requires : goal.run_line-requires
-run_line-requires g c = (search rules, record { own = c.requires.line.own; served = c.requires.line.served; rested = c.requires.line.rested; read_up = c.requires.read_up })
+run_line-requires g c = record { own = c.requires.line.own; served = c.requires.line.served; rested = c.requires.line.rested; read_up = c.requires.read_up }
 
 pub say_answer-requires-clause-may : goal.say_answer-requires-clause-may
 say_answer-requires-clause-may g c = may-at _ _ (knows c.args.tells.now) (sym (no-script c.args.session.now c.run_line.new.session c.run_line.ensures.same)) c.requires.may

@@ -1,4 +1,4 @@
-use Rattle.std.proofs.Common.{sym, subst, arith, rules}
+use Rattle.std.proofs.Common.{sym, subst, arith}
 use Rattle.std.proofs.lemmas.List.Elements.{All-get_or}
 use Rattle.pgn_seats.specs.declared.desk.Desk.{Desk}
 use Rattle.pgn_seats.specs.Workers.{HasSeat, HaveSeats}
@@ -9,4 +9,4 @@ unfolding HaveSeats
 rest_at-requires g c =
     let shape = g.H.Hub.shape c.args.hub.now in
     let desk = c.index-desks-0.result in
-    (search rules, subst (λ (d : Desk g.row.P.Denot). HasSeat shape d) (sym c.index-desks-0.is) (All-get_or (HasSeat shape) c.args.desks.now 0 desk (omega arith) c.requires))
+    subst (λ (d : Desk g.row.P.Denot). HasSeat shape d) (sym c.index-desks-0.is) (All-get_or (HasSeat shape) c.args.desks.now 0 desk (omega arith) c.requires)

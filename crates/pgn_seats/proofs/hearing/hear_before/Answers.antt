@@ -9,10 +9,10 @@ use Rattle.pgn_seats.proofs.WorkLaws.{line-read, no-read, within-grown}
 use Rattle.pgn_seats.proofs.hearing.hear_before.Goals as goal
 
 pub read_before_line-requires-clause-own : goal.read_before_line-requires-clause-own
-read_before_line-requires-clause-own g c κs within = c.requires.line.1.own
+read_before_line-requires-clause-own g c = c.requires.line.1.own
 
 pub read_before_line-requires-clause-rested : goal.read_before_line-requires-clause-rested
-read_before_line-requires-clause-rested g c κs within = c.requires.line.1.rested
+read_before_line-requires-clause-rested g c = c.requires.line.1.rested
 
 pub say_heard-requires-clause-may : goal.say_heard-requires-clause-may
 say_heard-requires-clause-may g c = may-at _ _ (knows c.args.tells.now) (sym (no-read c.args.session.now c.read_before_line.new.self c.read_before_line.ensures.same)) c.requires.may

@@ -9,10 +9,10 @@ use Rattle.pgn_seats.proofs.WorkLaws.{no-read, rest-answers, within-grown, work-
 use Rattle.pgn_seats.proofs.hearing.listen.Goals as goal
 
 pub idle-requires-clause-own : goal.idle-requires-clause-own
-idle-requires-clause-own g c κs within = c.requires.work.own
+idle-requires-clause-own g c = c.requires.work.own
 
 pub idle-requires-clause-answered : goal.idle-requires-clause-answered
-idle-requires-clause-answered g c κs within =
+idle-requires-clause-answered g c =
     rest-answers (g.H.Hub.shape c.args.service.now.hub.now) g.P.PassView.known c.args.session.now c.requires.work.is_open.between c.requires.work.rested
 
 pub say_heard-requires-clause-may : goal.say_heard-requires-clause-may

@@ -4,19 +4,19 @@ use Rattle.pgn_seats.proofs.WorkLaws.{few-notes, more-notes, open-quits, runs-on
 use Rattle.pgn_seats.proofs.lines.put_line.Goals as goal
 
 pub feed-requires-clause-quits : goal.feed-requires-clause-quits
-feed-requires-clause-quits g c κs within = c.requires.is_open.ends
+feed-requires-clause-quits g c = c.requires.is_open.ends
 
 pub feed-requires-clause-before_last : goal.feed-requires-clause-before_last
-feed-requires-clause-before_last g c κs within = open-quits c.args.desk.now.session c.requires.is_open
+feed-requires-clause-before_last g c = open-quits c.args.desk.now.session c.requires.is_open
 
 pub feed-requires-clause-place : goal.feed-requires-clause-place
-feed-requires-clause-place g c κs within = c.requires.is_open.between
+feed-requires-clause-place g c = c.requires.is_open.between
 
 pub feed-requires-clause-goes_on : goal.feed-requires-clause-goes_on
-feed-requires-clause-goes_on g c κs within = runs-on c.args.line c.requires.runs
+feed-requires-clause-goes_on g c = runs-on c.args.line c.requires.runs
 
 pub feed-requires-clause-few : goal.feed-requires-clause-few
-feed-requires-clause-few g c κs within =
+feed-requires-clause-few g c =
     few-notes c.args.line c.args.desk.now.session.section.lines c.notes_in-more.result c.args.desk.now.notes c.args.desk.now.session.section.note_lines c.notes_in-more.ensures c.requires.counted (c.have_room.ensures (search rules))
 
 pub returns-in_err-feed : goal.returns-in_err-feed

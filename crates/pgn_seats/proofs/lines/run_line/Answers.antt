@@ -6,16 +6,16 @@ use Rattle.pgn_seats.proofs.WorkLaws.{line-ran, line-work, quit-done, script-rea
 use Rattle.pgn_seats.proofs.lines.run_line.Goals as goal
 
 pub step-requires-clause-own : goal.step-requires-clause-own
-step-requires-clause-own g c κs within = c.requires.own
+step-requires-clause-own g c = c.requires.own
 
 pub step-requires-clause-served : goal.step-requires-clause-served
-step-requires-clause-served g c κs within = c.requires.served
+step-requires-clause-served g c = c.requires.served
 
 pub step-requires-clause-rested : goal.step-requires-clause-rested
-step-requires-clause-rested g c κs within = c.requires.rested
+step-requires-clause-rested g c = c.requires.rested
 
 pub step-requires-clause-read_first : goal.step-requires-clause-read_first
-step-requires-clause-read_first g c κs within = c.requires.read_up
+step-requires-clause-read_first g c = c.requires.read_up
 
 pub returns-in_err-_step : goal.returns-in_err-_step
 returns-in_err-_step g c = record {

@@ -10,14 +10,12 @@ use Rattle.pgn_seats.proofs.WorkLaws.{may-take}
 use Rattle.pgn_seats.proofs.lines.take_both.Goals as goal
 
 pub take_line-requires : goal.take_line-requires
-take_line-requires g c = (search rules, c.requires)
+take_line-requires g c = c.requires
 
 pub take_line-requires-2 : goal.take_line-requires-2
-take_line-requires-2 g c = (
-  search rules,
-  may-take (g.H.Hub.is_pass c.args.service.now.hub.now) (g.H.Hub.shape c.args.service.now.hub.now) g.P.PassView.known c.unlisten_at-behind.result (unlisten_line c.in-Some.next) c.take_line.new.desk UnlistenAll c.unlisten_at-behind.ensures refl refl
-      c.in_ok-take_line.ensures.work c.take_line.ensures.counted,
-)
+take_line-requires-2 g c =
+    may-take (g.H.Hub.is_pass c.args.service.now.hub.now) (g.H.Hub.shape c.args.service.now.hub.now) g.P.PassView.known c.unlisten_at-behind.result (unlisten_line c.in-Some.next) c.take_line.new.desk UnlistenAll c.unlisten_at-behind.ensures refl refl
+    c.in_ok-take_line.ensures.work c.take_line.ensures.counted
 
 pub returns-in_err-take_line : goal.returns-in_err-take_line
 returns-in_err-take_line g c = record {

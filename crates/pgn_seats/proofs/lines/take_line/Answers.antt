@@ -8,20 +8,20 @@ use Rattle.pgn_seats.proofs.WorkLaws.{client-fed, client-same, fed-section, lawf
 use Rattle.pgn_seats.proofs.lines.take_line.Goals as goal
 
 pub put_line-requires-clause-is_open : goal.put_line-requires-clause-is_open
-put_line-requires-clause-is_open g c κs within = c.requires.work.is_open
+put_line-requires-clause-is_open g c = c.requires.work.is_open
 
 pub put_line-requires-clause-runs : goal.put_line-requires-clause-runs
-put_line-requires-clause-runs g c κs within = c.requires.runs
+put_line-requires-clause-runs g c = c.requires.runs
 
 pub put_line-requires-clause-counted : goal.put_line-requires-clause-counted
-put_line-requires-clause-counted g c κs within = c.requires.counted
+put_line-requires-clause-counted g c = c.requires.counted
 
 pub run_line-requires : goal.run_line-requires
 run_line-requires g c =
     let shape = (g.H.Hub.shape c.args.service.now.hub.now) in
     let line = line-put (g.H.Hub.is_pass c.args.service.now.hub.now) shape g.P.PassView.known c.args.desk.now.session c.put_line.new.desk.session c.args.line c.requires.runs c.requires.work c.in_ok-put_line.ensures.fed
     (c.in_ok-put_line.ensures.rested shape c.requires.work.rested) in
-    (search rules, record { own = line.own; served = line.served; rested = line.rested; read_up = λ first. absurd (line-unread c.put_line.new.desk.session c.args.line line.before c.requires.unread first) })
+    record { own = line.own; served = line.served; rested = line.rested; read_up = λ first. absurd (line-unread c.put_line.new.desk.session c.args.line line.before c.requires.unread first) }
 
 pub returns-in_err-put_line : goal.returns-in_err-put_line
 returns-in_err-put_line g c = record {

@@ -15,7 +15,7 @@ say_end-requires-clause-may g c = may-at _ _ (knows c.args.tells.now) (sym (clie
 
 pub take_both-requires : goal.take_both-requires
 take_both-requires g c =
-    (search rules, may-take (g.H.Hub.is_pass c.args.service.now.hub.now) (g.H.Hub.shape c.args.service.now.hub.now) g.P.PassView.known c.rollback_at.result (rollback_line c.args.line) c.args.desk.now Rollback c.rollback_at.ensures refl refl c.requires.may.work c.requires.may.counted)
+    may-take (g.H.Hub.is_pass c.args.service.now.hub.now) (g.H.Hub.shape c.args.service.now.hub.now) g.P.PassView.known c.rollback_at.result (rollback_line c.args.line) c.args.desk.now Rollback c.rollback_at.ensures refl refl c.requires.may.work c.requires.may.counted
 
 pub returns-in_err-take_both-clause-tried : goal.returns-in_err-take_both-clause-tried
 returns-in_err-take_both-clause-tried g c = record {

@@ -1,4 +1,4 @@
-use Rattle.std.proofs.Common.{[], ◌∷◌, ◌++◌, Option, ap, ◌∙◌, rules}
+use Rattle.std.proofs.Common.{[], ◌∷◌, ◌++◌, Option, ap, ◌∙◌}
 use Rattle.pgn_outlet.specs.Passes.{knows}
 use Rattle.pgn_session.proofs.OpenLaws.{quit-unread}
 use Rattle.pgn_turns.specs.declared.asked.Ask.{Ask}
@@ -7,15 +7,13 @@ use Rattle.pgn_seats.proofs.SeatLaws.{turned-did, turned-idle, turned-not, turne
 use Rattle.pgn_seats.proofs.turn.serve_next.Goals as goal
 
 pub run_line-requires : goal.run_line-requires
-run_line-requires g c = (
-  search rules,
-  record {
-    own = c.requires.serves.own;
-    served = c.requires.serves.served;
-    rested = c.requires.serves.rested;
-    read_up = λ first. absurd (quit-unread c.args.desk.now.session c.requires.serves.is_open first);
-  },
-)
+run_line-requires g c =
+    record {
+      own = c.requires.serves.own;
+      served = c.requires.serves.served;
+      rested = c.requires.serves.rested;
+      read_up = λ first. absurd (quit-unread c.args.desk.now.session c.requires.serves.is_open first);
+    }
 
 pub returns-in-Ok-clause-turned : goal.returns-in-Ok-clause-turned
 returns-in-Ok-clause-turned g c =

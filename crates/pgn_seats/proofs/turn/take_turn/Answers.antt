@@ -6,7 +6,7 @@ use Rattle.pgn_seats.proofs.WorkLaws.{client-same}
 use Rattle.pgn_seats.proofs.turn.take_turn.Goals as goal
 
 pub serve_next-requires-clause-serves : goal.serve_next-requires-clause-serves
-serve_next-requires-clause-serves g c κs within =
+serve_next-requires-clause-serves g c =
     seated-serves (g.H.Hub.is_pass c.args.service.now.hub.now) (g.H.Hub.shape c.args.service.now.hub.now) g.P.PassView.known c.args.service.now.inboxes.now c.args.desk.now (knows c.args.tells.now) (search rules) c.requires.seated
 
 pub returns-in_default-clause-same : goal.returns-in_default-clause-same

@@ -7,11 +7,11 @@ use Rattle.pgn_session.proofs.TogetherLaws.{front-more, front-all, back-here, ba
 use Rattle.pgn_session.proofs.together.give_up_all.Goals as goal
 
 pub give_up-requires-clause-own : goal.give_up-requires-clause-own
-give_up-requires-clause-own g c κs within =
+give_up-requires-clause-own g c =
     (back-here (IsHeld (g.H.Hub.is_pass c.args.hub.now) (g.H.Hub.shape c.args.hub.now)) c.loop-session.sessions c.loop-session.session-index c.session-item.result (omega arith) c.loop-session.invariant.held).own
 
 pub give_up-requires-clause-served : goal.give_up-requires-clause-served
-give_up-requires-clause-served g c κs within =
+give_up-requires-clause-served g c =
     (back-here (IsHeld (g.H.Hub.is_pass c.args.hub.now) (g.H.Hub.shape c.args.hub.now)) c.loop-session.sessions c.loop-session.session-index c.session-item.result (omega arith) c.loop-session.invariant.held).served
 
 pub loop-session-preserved : goal.loop-session-preserved

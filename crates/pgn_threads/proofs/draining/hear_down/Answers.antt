@@ -6,22 +6,22 @@ use Rattle.pgn_threads.proofs.MeetLaws.{down-all}
 use Rattle.pgn_threads.proofs.draining.hear_down.Goals as goal
 
 pub meet-requires-clause-own : goal.meet-requires-clause-own
-meet-requires-clause-own g c κs within =
+meet-requires-clause-own g c =
     (all-behind (IsOver (g.H.Hub.is_pass c.args.hub.now) (g.H.Hub.shape c.args.hub.now) g.P.PassView.known) c.args.sessions.now c.split_at_mut-front.result.1.now c.args.i c.split_at_mut-front.ensures.back c.requires.over 0 c.index-back-0.result
     (place-behind c.args.i (length c.split_at_mut-front.result.1.now) (length c.args.sessions.now) c.split_at_mut-front.ensures.back_len c.requires.place.1)).own
 
 pub meet-requires-clause-into_own : goal.meet-requires-clause-into_own
-meet-requires-clause-into_own g c κs within =
+meet-requires-clause-into_own g c =
     (all-front (IsOver (g.H.Hub.is_pass c.args.hub.now) (g.H.Hub.shape c.args.hub.now) g.P.PassView.known) c.args.sessions.now c.split_at_mut-front.result.0.now c.args.i c.split_at_mut-front.ensures.front c.requires.over (c.args.i - 1) c.index-front-i.result
     (place-before c.args.i (length c.split_at_mut-front.result.0.now) c.requires.place.0 c.split_at_mut-front.ensures.front_len)).own
 
 pub meet-requires-clause-over : goal.meet-requires-clause-over
-meet-requires-clause-over g c κs within =
+meet-requires-clause-over g c =
     (all-front (IsOver (g.H.Hub.is_pass c.args.hub.now) (g.H.Hub.shape c.args.hub.now) g.P.PassView.known) c.args.sessions.now c.split_at_mut-front.result.0.now c.args.i c.split_at_mut-front.ensures.front c.requires.over (c.args.i - 1) c.index-front-i.result
     (place-before c.args.i (length c.split_at_mut-front.result.0.now) c.requires.place.0 c.split_at_mut-front.ensures.front_len)).over
 
 pub meet-requires-clause-rested : goal.meet-requires-clause-rested
-meet-requires-clause-rested g c κs within =
+meet-requires-clause-rested g c =
     (all-front (IsOver (g.H.Hub.is_pass c.args.hub.now) (g.H.Hub.shape c.args.hub.now) g.P.PassView.known) c.args.sessions.now c.split_at_mut-front.result.0.now c.args.i c.split_at_mut-front.ensures.front c.requires.over (c.args.i - 1) c.index-front-i.result
     (place-before c.args.i (length c.split_at_mut-front.result.0.now) c.requires.place.0 c.split_at_mut-front.ensures.front_len)).rested
 

@@ -4,13 +4,13 @@ use Rattle.pgn_threads.proofs.LastReadLaws.{read-over, read-scripts, read-signal
 use Rattle.pgn_threads.proofs.draining.read_last.Goals as goal
 
 pub finish_read-requires-clause-own : goal.finish_read-requires-clause-own
-finish_read-requires-clause-own g c κs within = (c.requires.over c.args.i c.index-sessions-i.result c.requires.place).own
+finish_read-requires-clause-own g c = (c.requires.over c.args.i c.index-sessions-i.result c.requires.place).own
 
 pub finish_read-requires-clause-over : goal.finish_read-requires-clause-over
-finish_read-requires-clause-over g c κs within = (c.requires.over c.args.i c.index-sessions-i.result c.requires.place).over
+finish_read-requires-clause-over g c = (c.requires.over c.args.i c.index-sessions-i.result c.requires.place).over
 
 pub finish_read-requires-clause-rested : goal.finish_read-requires-clause-rested
-finish_read-requires-clause-rested g c κs within = (c.requires.over c.args.i c.index-sessions-i.result c.requires.place).rested
+finish_read-requires-clause-rested g c = (c.requires.over c.args.i c.index-sessions-i.result c.requires.place).rested
 
 pub returns-clause-over : goal.returns-clause-over
 returns-clause-over g c =

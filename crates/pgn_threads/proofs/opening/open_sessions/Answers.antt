@@ -20,19 +20,19 @@ loop-section-preserved g c =
     (same-script s c.args.shared.plan c.args.shared.patience c.in-Some.section begins.1 begins.2 begins.3) c.in_ok-new.ensures.rested)
 
 pub new-requires-clause-opened : goal.new-requires-clause-opened
-new-requires-clause-opened g c κs within =
+new-requires-clause-opened g c =
     let now = c.loop-section in
     is-opened g.P.PassView.known c.args.shared.plan c.args.shared.patience c.args.sections.items c.args.passes.items now.yielded now.section-iterator.rest.items now.passes.rest.items now.sessions.items
     c.in-Some.section c.next.new.self.rest.items c.in-Some.ensures.steps.0 now.invariant c.in-Some-next.pass c.next-in-loop-section.new.self.rest.items c.in-Some-next.ensures.items
 
 pub new-requires-clause-counted : goal.new-requires-clause-counted
-new-requires-clause-counted g c κs within =
+new-requires-clause-counted g c =
     let now = c.loop-section in
     (is-fit g.P.PassView.known c.args.shared.plan c.args.shared.patience c.args.sections.items c.args.passes.items now.yielded now.section-iterator.rest.items now.passes.rest.items now.sessions.items
     c.in-Some.section c.next.new.self.rest.items c.in-Some.ensures.steps.0 now.invariant).counted
 
 pub new-requires-clause-quits_last : goal.new-requires-clause-quits_last
-new-requires-clause-quits_last g c κs within =
+new-requires-clause-quits_last g c =
     let now = c.loop-section in
     (is-fit g.P.PassView.known c.args.shared.plan c.args.shared.patience c.args.sections.items c.args.passes.items now.yielded now.section-iterator.rest.items now.passes.rest.items now.sessions.items
     c.in-Some.section c.next.new.self.rest.items c.in-Some.ensures.steps.0 now.invariant).quits_last

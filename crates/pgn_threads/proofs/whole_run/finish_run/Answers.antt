@@ -15,12 +15,14 @@ use Rattle.pgn_threads.proofs.ListLemmas.{written-back, same-count}
 use Rattle.pgn_threads.proofs.WholeLaws.{all-own, bare-back, bare-sessions, map-twice, merged-legal, numbers-same, passes-in_order, passes-same, sections-same, sessions-legal}
 use Rattle.pgn_threads.proofs.whole_run.finish_run.Goals as goal
 
-pub drain-requires-clause-over : goal.drain-requires-clause-over
-drain-requires-clause-over g c κs within =
-    All-same (IsOver (g.H.Hub.is_pass c.args.hub) (g.H.Hub.shape c.args.hub) g.H.Pass.PassView.known) c.as_mut_slice.result.now c.args.sessions.items c.as_mut_slice.ensures.value c.requires.over
+pub drain-requires : goal.drain-requires
+drain-requires g c = record {
+  over =
+      All-same (IsOver (g.H.Hub.is_pass c.args.hub) (g.H.Hub.shape c.args.hub) g.H.Pass.PassView.known) c.as_mut_slice.result.now c.args.sessions.items c.as_mut_slice.ensures.value c.requires.over;
+}
 
-pub are_within-requires-after_bounds : goal.are_within-requires-after_bounds
-are_within-requires-after_bounds g c κs within =
+pub are_within-requires : goal.are_within-requires
+are_within-requires g c =
     let new : List (Session g.row.H-Pass.Denot) = c.drain.new.sessions in
     let count = same-count script_of new c.as_mut_slice.result.now c.in-Ok.ensures.scripts ∙ c.as_mut_slice.ensures.len in
     let back = written-back new (drop (length new) c.args.sessions.items) c.args.sessions.len (sym count) in

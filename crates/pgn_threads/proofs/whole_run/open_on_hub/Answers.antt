@@ -6,7 +6,7 @@ use Rattle.pgn_threads.specs.Opened.{plan_for, scenario_of, script_for, shape_fo
 use Rattle.pgn_threads.proofs.whole_run.open_on_hub.Goals as goal
 
 pub open_with-requires-clause-sound : goal.open_with-requires-clause-sound
-open_with-requires-clause-sound g c κs within = subst (λ (ss : List Section). IsSound (scenario_of ss c.args.scenario.now.flags)) (sym c.in_ok-sections.ensures.equal) c.requires.sound
+open_with-requires-clause-sound g c = subst (λ (ss : List Section). IsSound (scenario_of ss c.args.scenario.now.flags)) (sym c.in_ok-sections.ensures.equal) c.requires.sound
 
 pub returns-clause-shape : goal.returns-clause-shape
 returns-clause-shape g c =

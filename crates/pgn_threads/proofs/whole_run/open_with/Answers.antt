@@ -10,13 +10,13 @@ use Rattle.pgn_threads.proofs.WholeLaws.{all-ready}
 use Rattle.pgn_threads.proofs.whole_run.open_with.Goals as goal
 
 pub open_sessions-requires-clause-opened : goal.open_sessions-requires-clause-opened
-open_sessions-requires-clause-opened g c κs within =
+open_sessions-requires-clause-opened g c =
     passes-opened g.H.Pass.PassView.known c.in_ok-hub.passes.items c.new-setup.result.seats c.in_ok-seats.seats.items c.as_slice-scripts.result.now c.args.sections
     c.in_ok-hub.ensures.passes (ap (λ (shape : Shape). shape.seats) c.new-setup.ensures) c.in_ok-seats.ensures c.as_slice-scripts.ensures c.requires.sound.numbered
     ∙ ap (λ (ss : List Section). map opened_for ss) (c.as_slice-scripts.ensures ∙ sym c.into_items.ensures)
 
 pub open_sessions-requires-clause-fit : goal.open_sessions-requires-clause-fit
-open_sessions-requires-clause-fit g c κs within = All-same IsFit c.into_items.result.items c.args.sections c.into_items.ensures (all-fit (scenario_of c.args.sections c.args.flags.now) c.requires.sound)
+open_sessions-requires-clause-fit g c = All-same IsFit c.into_items.result.items c.args.sections c.into_items.ensures (all-fit (scenario_of c.args.sections c.args.flags.now) c.requires.sound)
 
 pub returns-clause-ready : goal.returns-clause-ready
 returns-clause-ready g c =

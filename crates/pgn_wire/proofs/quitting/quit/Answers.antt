@@ -4,7 +4,7 @@ use Rattle.pgn_wire.proofs.TakenLaws.{on_err, quit-is-silent, quit-refused, quit
 use Rattle.pgn_wire.proofs.quitting.quit.Goals as goal
 
 pub step-requires-clause-read_first : goal.step-requires-clause-read_first
-step-requires-clause-read_first g c κs within first = absurd (quit-unread c.args.session.now c.requires.between first)
+step-requires-clause-read_first g c first = absurd (quit-unread c.args.session.now c.requires.between first)
 
 pub returns-in_err-_step-clause-stopped : goal.returns-in_err-_step-clause-stopped
 returns-in_err-_step-clause-stopped g c =

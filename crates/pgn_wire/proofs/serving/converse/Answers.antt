@@ -19,13 +19,13 @@ loop-query-init g c =
     }
 
 pub take_turn-requires-clause-ready : goal.take_turn-requires-clause-ready
-take_turn-requires-clause-ready g c κs within = c.loop-query.invariant.ready
+take_turn-requires-clause-ready g c = c.loop-query.invariant.ready
 
 pub take_turn-requires-clause-notes : goal.take_turn-requires-clause-notes
-take_turn-requires-clause-notes g c κs within = c.loop-query.invariant.serving.notes
+take_turn-requires-clause-notes g c = c.loop-query.invariant.serving.notes
 
 pub take_turn-requires-clause-most : goal.take_turn-requires-clause-most
-take_turn-requires-clause-most g c κs within = c.loop-query.invariant.serving.most
+take_turn-requires-clause-most g c = c.loop-query.invariant.serving.most
 
 pub loop-query-preserved : goal.loop-query-preserved
 loop-query-preserved g c =

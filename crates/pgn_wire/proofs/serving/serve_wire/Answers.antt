@@ -6,7 +6,7 @@ use Rattle.pgn_wire.proofs.WrittenLaws.{stopped-wrote}
 use Rattle.pgn_wire.proofs.serving.serve_wire.Goals as goal
 
 pub converse-requires-clause-ready : goal.converse-requires-clause-ready
-converse-requires-clause-ready g c κs within = record {
+converse-requires-clause-ready g c = record {
   own = c.requires.own;
   served = c.requires.served;
   rested = c.requires.rested;
@@ -15,16 +15,16 @@ converse-requires-clause-ready g c κs within = record {
 }
 
 pub quit-requires-clause-own : goal.quit-requires-clause-own
-quit-requires-clause-own g c κs within = c.in-Ok.ensures.ready.own
+quit-requires-clause-own g c = c.in-Ok.ensures.ready.own
 
 pub quit-requires-clause-served : goal.quit-requires-clause-served
-quit-requires-clause-served g c κs within = c.in-Ok.ensures.ready.served
+quit-requires-clause-served g c = c.in-Ok.ensures.ready.served
 
 pub quit-requires-clause-rested : goal.quit-requires-clause-rested
-quit-requires-clause-rested g c κs within = c.in-Ok.ensures.ready.rested
+quit-requires-clause-rested g c = c.in-Ok.ensures.ready.rested
 
 pub quit-requires-clause-between : goal.quit-requires-clause-between
-quit-requires-clause-between g c κs within = c.in-Ok.ensures.ready.is_open
+quit-requires-clause-between g c = c.in-Ok.ensures.ready.is_open
 
 pub returns-in-Ok-quit-clause-same : goal.returns-in-Ok-quit-clause-same
 returns-in-Ok-quit-clause-same g c = quit-same c.args.session.now c.converse.new.session c.quit.new.session c.in-Ok.ensures.ended.same c.quit.ensures.same

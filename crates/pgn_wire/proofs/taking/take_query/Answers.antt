@@ -4,30 +4,30 @@ use Rattle.pgn_wire.proofs.TakenLaws.{client-fed, client-read, client-same, fed-
 use Rattle.pgn_wire.proofs.taking.take_query.Goals as goal
 
 pub feed-requires-clause-quits : goal.feed-requires-clause-quits
-feed-requires-clause-quits g c κs within = c.requires.ready.is_open.ends
+feed-requires-clause-quits g c = c.requires.ready.is_open.ends
 
 pub feed-requires-clause-place : goal.feed-requires-clause-place
-feed-requires-clause-place g c κs within = c.requires.ready.is_open.between
+feed-requires-clause-place g c = c.requires.ready.is_open.between
 
 pub feed-requires-clause-before_last : goal.feed-requires-clause-before_last
-feed-requires-clause-before_last g c κs within = open-quits c.args.session.now c.requires.ready.is_open
+feed-requires-clause-before_last g c = open-quits c.args.session.now c.requires.ready.is_open
 
 pub feed-requires-clause-goes_on : goal.feed-requires-clause-goes_on
-feed-requires-clause-goes_on g c κs within = runs-on c.args.line c.requires.runs
+feed-requires-clause-goes_on g c = runs-on c.args.line c.requires.runs
 
 pub step-requires-clause-served : goal.step-requires-clause-served
-step-requires-clause-served g c κs within =
+step-requires-clause-served g c =
     fed-runs_served (g.H.Hub.shape c.args.hub.now) c.args.session.now c.feed.new.self c.args.line c.requires.ready.is_open c.requires.runs (fed-section c.args.session.now c.feed.new.self c.args.line c.in_ok-feed.ensures.fed)
     (client-fed c.args.session.now c.feed.new.self c.args.line c.in_ok-feed.ensures.fed) c.requires.ready.served
 
 pub step-requires-clause-own : goal.step-requires-clause-own
-step-requires-clause-own g c κs within = fed-own (g.H.Hub.is_pass c.args.hub.now) c.args.session.now c.feed.new.self c.args.line c.in_ok-feed.ensures.fed c.requires.ready.own
+step-requires-clause-own g c = fed-own (g.H.Hub.is_pass c.args.hub.now) c.args.session.now c.feed.new.self c.args.line c.in_ok-feed.ensures.fed c.requires.ready.own
 
 pub step-requires-clause-rested : goal.step-requires-clause-rested
-step-requires-clause-rested g c κs within = c.in_ok-feed.ensures.rested (g.H.Hub.shape c.args.hub.now) c.requires.ready.rested
+step-requires-clause-rested g c = c.in_ok-feed.ensures.rested (g.H.Hub.shape c.args.hub.now) c.requires.ready.rested
 
 pub step-requires-clause-read_first : goal.step-requires-clause-read_first
-step-requires-clause-read_first g c κs within = fed-read g.P.PassView.known c.args.session.now c.feed.new.self c.args.line c.in_ok-feed.ensures.fed c.requires.ready.read_up
+step-requires-clause-read_first g c = fed-read g.P.PassView.known c.args.session.now c.feed.new.self c.args.line c.in_ok-feed.ensures.fed c.requires.ready.read_up
 
 pub returns-in_err-feed-clause-own : goal.returns-in_err-feed-clause-own
 returns-in_err-feed-clause-own g c = same-own (g.H.Hub.is_pass c.args.hub.now) c.args.session.now c.feed.new.self c.in_err-feed.ensures.unchanged c.requires.ready.own
@@ -84,5 +84,5 @@ returns-clause-taken g c =
     (c.in_ok-feed.ensures.rested shape c.requires.ready.rested) c.step.ensures.same c.in_ok-_step.ensures.moved c.read_behind.ensures.same c.read_behind.ensures.grows c.in_ok-read_behind.ensures.rested
 
 pub read_behind-requires-clause-between : goal.read_behind-requires-clause-between
-read_behind-requires-clause-between g c κs within =
+read_behind-requires-clause-between g c =
     query-between g.P.PassView.known c.args.session.now c.feed.new.self c.step.new.self c.args.line c.in_ok-_step._step c.requires.ready.is_open c.requires.runs c.in_ok-feed.ensures.fed c.in_ok-_step.ensures.moved

@@ -8,11 +8,11 @@ use Rattle.pgn_session.proofs.OpenLaws.{stood-rest}
 use Rattle.pgn_wire.proofs.turn.take_turn.Goals as goal
 
 pub one_query-requires-clause-runs : goal.one_query-requires-clause-runs
-one_query-requires-clause-runs g c κs within =
+one_query-requires-clause-runs g c =
     passed-runs c.args.queries.now c.next_query.new.queries c.in-Ok-Some.line (some-passed c.args.queries.now c.next_query.new.queries c.in-Ok-Some.field-0 c.in-Ok-Some.line c.in-Ok-Some.field-0-is c.in-Ok-Some.ensures.passed)
 
 pub one_query-requires-clause-few : goal.one_query-requires-clause-few
-one_query-requires-clause-few g c κs within =
+one_query-requires-clause-few g c =
     passed-few c.args.queries.now c.next_query.new.queries c.in-Ok-Some.line c.args.session.now.section.lines c.args.session.now.section.note_lines
     (some-passed c.args.queries.now c.next_query.new.queries c.in-Ok-Some.field-0 c.in-Ok-Some.line c.in-Ok-Some.field-0-is c.in-Ok-Some.ensures.passed) c.requires.notes c.requires.most
 

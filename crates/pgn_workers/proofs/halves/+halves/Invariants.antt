@@ -1,8 +1,8 @@
 use Rattle.std.proofs.Common.{length, ◌+◌, ◌*◌}
 use Rattle.pgn_workers.proofs.halves.+halves.Given as goal
 
-abbrev pub decreases-run_crew : goal.decreases-run_crew
-decreases-run_crew g l = 6 * length l.workers.now + 2
+abbrev pub decreases-run : goal.decreases-run
+decreases-run g l = 6 * length l.workers.now + 2
 
 abbrev pub decreases-run_apart : goal.decreases-run_apart
 decreases-run_apart g l = 6 * length l.workers.now + 1

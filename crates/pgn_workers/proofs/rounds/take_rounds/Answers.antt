@@ -5,11 +5,8 @@ use Rattle.pgn_workers.proofs.rounds.take_rounds.Goals as goal
 pub loop-init : goal.loop-init
 loop-init g c = record { goes = c.requires.goes; took = c.laws.ensures.took_none (part c.args.workers.now c.args.hand.now) c.requires.goes }
 
-pub take_round-requires-clause-job : goal.take_round-requires-clause-job
-take_round-requires-clause-job g c = c.requires.job
-
-pub take_round-requires-clause-goes : goal.take_round-requires-clause-goes
-take_round-requires-clause-goes g c = c.loop.invariant.goes
+pub take_round-requires : goal.take_round-requires
+take_round-requires g c = record { goes = c.loop.invariant.goes }
 
 pub returns-in_err-turn-clause-took : goal.returns-in_err-turn-clause-took
 returns-in_err-turn-clause-took g c =
@@ -21,9 +18,6 @@ returns-in-Ended-clause-took g c =
 
 pub returns-in-Ended-clause-over : goal.returns-in-Ended-clause-over
 returns-in-Ended-clause-over g c = c.in_ok-turn.ensures.over (ap Ok c.in-Ended.is)
-
-pub wait_behind-waits-requires-clause-job : goal.wait_behind-waits-requires-clause-job
-wait_behind-waits-requires-clause-job g c = c.requires.job
 
 pub wait_behind-waits-requires-clause-goes : goal.wait_behind-waits-requires-clause-goes
 wait_behind-waits-requires-clause-goes g c =

@@ -17,7 +17,7 @@ use Rattle.pgn_session.proofs.WholeLaws.{did-goes_on}
 use Rattle.pgn_session.proofs.session.Session.commit.Goals as goal
 
 pub carry_out-requires-clause-different : goal.carry_out-requires-clause-different
-carry_out-requires-clause-different g c κs within =
+carry_out-requires-clause-different g c =
     subst (λ (notes : List Note). AllPairs (λ (a : Note) (b : Note). a ≢ b) notes) (sym c.requires.rested.here.next.notes_are) (firsts-differ _)
 
 pub returns-clause-stepped : goal.returns-clause-stepped
@@ -48,25 +48,27 @@ returns-clause-stepped g c =
       moved = (shows, between, refl, ap (λ (x : Session g.row.P.Denot). x.done + 1) same);
     })
 
-pub next_number-line-requires-clause-more : goal.next_number-line-requires-clause-more
-next_number-line-requires-clause-more g c κs within =
-    let s = c.args.self.now in
-    let r = c.requires.rested in
-    let left : s.done < length s.section.lines = some-left s.section.lines r.here.lines s.done r.here.line (sym r.rest ∙ r.here.next.comes.next) in
-    subst (λ (x : Session g.row.P.Denot). x.done < length x.section.lines) (sym c.make_room.ensures.same) left
+pub next_number-line-requires : goal.next_number-line-requires
+next_number-line-requires g c = record {
+  more =
+      let s = c.args.self.now in
+      let r = c.requires.rested in
+      let left : s.done < length s.section.lines = some-left s.section.lines r.here.lines s.done r.here.line (sym r.rest ∙ r.here.next.comes.next) in
+      subst (λ (x : Session g.row.P.Denot). x.done < length x.section.lines) (sym c.make_room.ensures.same) left;
+}
 
 pub carry_out-requires-clause-few : goal.carry_out-requires-clause-few
-carry_out-requires-clause-few g c κs within =
+carry_out-requires-clause-few g c =
     let s = c.args.self.now in
     let r = c.requires.rested in
     let few : length c.args.commit.notes ≤ (g.P.PassView.known s.pass).notes_left = part-fits (spare_of s.section) (length c.args.commit.notes) (note_lines_of r.here.lines) (g.P.PassView.known s.pass).notes_left r.here.budget in
     subst (λ (x : Session g.row.P.Denot). length c.args.commit.notes ≤ (g.P.PassView.known x.pass).notes_left) (sym c.make_room.ensures.same) few
 
 pub carry_out-requires-clause-room : goal.carry_out-requires-clause-room
-carry_out-requires-clause-room g c κs within = when-ok c.make_room.result _ (sym c.is_err.ensures.value ∙ c.if-is_err.false) c.make_room.ensures.room
+carry_out-requires-clause-room g c = when-ok c.make_room.result _ (sym c.is_err.ensures.value ∙ c.if-is_err.false) c.make_room.ensures.room
 
 pub carry_out-requires-clause-set_room : goal.carry_out-requires-clause-set_room
-carry_out-requires-clause-set_room g c κs within =
+carry_out-requires-clause-set_room g c =
     subst (λ (actions : List Action). length actions ≤ c.make_room.new.self.set.room) c.as_slice.ensures (when-ok c.make_room.result _ (sym c.is_err.ensures.value ∙ c.if-is_err.false) c.make_room.ensures.set_room)
 
 pub returns-then-is_err-clause-refused : goal.returns-then-is_err-clause-refused
@@ -94,4 +96,4 @@ pub returns-then-is_err-clause-own : goal.returns-then-is_err-clause-own
 returns-then-is_err-clause-own g c = subst (λ (x : Session g.row.P.Denot). g.H.Hub.is_pass c.args.hub.now x.pass) (sym c.make_room.ensures.same) c.requires.own
 
 pub carry_out-requires-clause-own : goal.carry_out-requires-clause-own
-carry_out-requires-clause-own g c κs within = subst (λ (x : Session g.row.P.Denot). g.H.Hub.is_pass c.args.hub.now x.pass) (sym c.make_room.ensures.same) c.requires.own
+carry_out-requires-clause-own g c = subst (λ (x : Session g.row.P.Denot). g.H.Hub.is_pass c.args.hub.now x.pass) (sym c.make_room.ensures.same) c.requires.own

@@ -8,36 +8,36 @@ use Rattle.pgn_session.proofs.WholeLaws.{stepped-at, stepped-from, refused-at, o
 use Rattle.pgn_session.proofs.session.Session.go_on.Goals as goal
 
 pub next_line-requires-clause-rested : goal.next_line-requires-clause-rested
-next_line-requires-clause-rested g c κs within =
+next_line-requires-clause-rested g c =
     let s = c.args.self.now in
     let stood : s.doing ≡ c.replace.new.dest = sym c.replace.ensures.value ∙ c.in-Lines.is ∙ sym c.replace.ensures.after in
     subst (λ (d : Doing). IsRested (terms_of (g.H.Hub.shape c.args.hub.now) s.section s.patience) s.plan s.done s.block s.set.channels d (g.P.PassView.known s.pass) s.items.items) stood c.requires.rested
 
 pub next_line-requires-clause-read_first : goal.next_line-requires-clause-read_first
-next_line-requires-clause-read_first g c κs within first =
+next_line-requires-clause-read_first g c first =
     c.requires.read_first (record { between = sym c.replace.ensures.value ∙ c.in-Lines.is; outside = first.outside; next = first.next })
 
 pub commit-requires-clause-rested : goal.commit-requires-clause-rested
-commit-requires-clause-rested g c κs within =
+commit-requires-clause-rested g c =
     let s = c.args.self.now in
     let stood : s.doing ≡ Committing c.in-Committing.actions c.in-Committing.notes c.in-Committing.tag = sym c.replace.ensures.value ∙ c.in-Committing.is in
     subst (λ (d : Doing). IsRested (terms_of (g.H.Hub.shape c.args.hub.now) s.section s.patience) s.plan s.done s.block s.set.channels d (g.P.PassView.known s.pass) s.items.items) stood c.requires.rested
 
 pub look_again-requires-clause-rested : goal.look_again-requires-clause-rested
-look_again-requires-clause-rested g c κs within =
+look_again-requires-clause-rested g c =
     let s = c.args.self.now in
     let stood : s.doing ≡ Awaiting c.in-Awaiting.flag c.in-Awaiting.looks = sym c.replace.ensures.value ∙ c.in-Awaiting.is in
     subst (λ (d : Doing). IsRested (terms_of (g.H.Hub.shape c.args.hub.now) s.section s.patience) s.plan s.done s.block s.set.channels d (g.P.PassView.known s.pass) s.items.items) stood c.requires.rested
 
 pub look_again-requires-clause-flag : goal.look_again-requires-clause-flag
-look_again-requires-clause-flag g c κs within =
+look_again-requires-clause-flag g c =
     let s = c.args.self.now in
     let shape = g.H.Hub.shape c.args.hub.now in
     let stood : s.doing ≡ Awaiting c.in-Awaiting.flag c.in-Awaiting.looks = sym c.replace.ensures.value ∙ c.in-Awaiting.is in
     subst (λ (d : Doing). IsAwaitedBelow shape.flags d) stood (rest-below shape g.P.PassView.known s c.requires.served c.requires.rested)
 
 pub look_again-requires-clause-few : goal.look_again-requires-clause-few
-look_again-requires-clause-few g c κs within =
+look_again-requires-clause-few g c =
     let s = c.args.self.now in
     let stood : s.doing ≡ Awaiting c.in-Awaiting.flag c.in-Awaiting.looks = sym c.replace.ensures.value ∙ c.in-Awaiting.is in
     let rested : IsRested (terms_of (g.H.Hub.shape c.args.hub.now) s.section s.patience) s.plan s.done s.block s.set.channels (Awaiting c.in-Awaiting.flag c.in-Awaiting.looks) (g.P.PassView.known s.pass) s.items.items =
@@ -45,13 +45,13 @@ look_again-requires-clause-few g c κs within =
     rested.here.0.1
 
 pub wait_for_others-requires-clause-rested : goal.wait_for_others-requires-clause-rested
-wait_for_others-requires-clause-rested g c κs within =
+wait_for_others-requires-clause-rested g c =
     let s = c.args.self.now in
     let stood : s.doing ≡ Ending c.in-Ending.found c.in-Ending.looks = sym c.replace.ensures.value ∙ c.in-Ending.is in
     subst (λ (d : Doing). IsRested (terms_of (g.H.Hub.shape c.args.hub.now) s.section s.patience) s.plan s.done s.block s.set.channels d (g.P.PassView.known s.pass) s.items.items) stood c.requires.rested
 
 pub wait_for_others-requires-clause-few : goal.wait_for_others-requires-clause-few
-wait_for_others-requires-clause-few g c κs within =
+wait_for_others-requires-clause-few g c =
     let s = c.args.self.now in
     let stood : s.doing ≡ Ending c.in-Ending.found c.in-Ending.looks = sym c.replace.ensures.value ∙ c.in-Ending.is in
     let rested : IsRested (terms_of (g.H.Hub.shape c.args.hub.now) s.section s.patience) s.plan s.done s.block s.set.channels (Ending c.in-Ending.found c.in-Ending.looks) (g.P.PassView.known s.pass) s.items.items =
@@ -59,7 +59,7 @@ wait_for_others-requires-clause-few g c κs within =
     rested.here.0.1
 
 pub wait_for_others-requires-clause-within : goal.wait_for_others-requires-clause-within
-wait_for_others-requires-clause-within g c κs within =
+wait_for_others-requires-clause-within g c =
     let s = c.args.self.now in
     let stood : s.doing ≡ Ending c.in-Ending.found c.in-Ending.looks = sym c.replace.ensures.value ∙ c.in-Ending.is in
     let rested : IsRested (terms_of (g.H.Hub.shape c.args.hub.now) s.section s.patience) s.plan s.done s.block s.set.channels (Ending c.in-Ending.found c.in-Ending.looks) (g.P.PassView.known s.pass) s.items.items =

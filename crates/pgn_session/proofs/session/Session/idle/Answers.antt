@@ -42,7 +42,7 @@ returns-clause-rested g c =
     c.in_ok-to.ensures.read (search rules) (ap (λ (k : Known). k.mark) c.woken.ensures.woken.known ∙ sym c.in-Some.ensures) (g.met.H.Hub.within c.args.hub.now c.woken.new.pass c.woken.ensures.own) woken
 
 pub read_on-requires-clause-interested : goal.read_on-requires-clause-interested
-read_on-requires-clause-interested g c κs within =
+read_on-requires-clause-interested g c =
     let s = c.args.self.now in
     let k : Known = g.P.PassView.known s.pass in
     let terms = terms_of (g.H.Hub.shape c.args.hub.now) s.section s.patience in
@@ -98,7 +98,7 @@ pub returns-in_err-to-clause-own : goal.returns-in_err-to-clause-own
 returns-in_err-to-clause-own g c = c.read_on.ensures.own
 
 pub read_on-requires-clause-own : goal.read_on-requires-clause-own
-read_on-requires-clause-own g c κs within = c.woken.ensures.own
+read_on-requires-clause-own g c = c.woken.ensures.own
 
 pub returns-in_err-to-clause-unshown : goal.returns-in_err-to-clause-unshown
 returns-in_err-to-clause-unshown g c = on-err _ _ c.in_err-to.ensures.refused_shows_nothing

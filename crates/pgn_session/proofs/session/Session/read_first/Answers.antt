@@ -20,7 +20,7 @@ returns-clause-rested g c =
     c.requires.between c.requires.outside c.in_ok-_to.ensures.read (sym c.in-Some.ensures) (g.met.H.Hub.within c.args.hub.now s.pass c.requires.own) c.requires.rested
 
 pub read_on-requires-clause-interested : goal.read_on-requires-clause-interested
-read_on-requires-clause-interested g c κs within =
+read_on-requires-clause-interested g c =
     let s = c.args.self.now in
     told-set (terms_of (g.H.Hub.shape c.args.hub.now) s.section s.patience) s.done s.set.channels (g.P.PassView.known s.pass) s.items.items _ c.in-Some.from (sym c.in-Some.ensures) c.requires.rested
 

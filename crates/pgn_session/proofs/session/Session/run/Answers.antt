@@ -13,10 +13,10 @@ use Rattle.pgn_session.proofs.RunLaws.{told-stepped, usage-stepped, handed-reste
 use Rattle.pgn_session.proofs.session.Session.run.Goals as goal
 
 pub measure-requires-clause-room : goal.measure-requires-clause-room
-measure-requires-clause-room g c κs within = c.answer.ensures.room c.in-Usage.is
+measure-requires-clause-room g c = c.answer.ensures.room c.in-Usage.is
 
 pub commit-requires-clause-rested : goal.commit-requires-clause-rested
-commit-requires-clause-rested g c κs within =
+commit-requires-clause-rested g c =
     let s = c.args.self.now in
     let taken = c.in_ok-taken.taken in
     let left = c.in-Commit.commit in
@@ -83,10 +83,10 @@ pub returns-in_err-taken-clause-own : goal.returns-in_err-taken-clause-own
 returns-in_err-taken-clause-own g c = c.requires.own
 
 pub commit-requires-clause-place : goal.commit-requires-clause-place
-commit-requires-clause-place g c κs within = c.requires.place
+commit-requires-clause-place g c = c.requires.place
 
 pub commit-requires-clause-own : goal.commit-requires-clause-own
-commit-requires-clause-own g c κs within = c.requires.own
+commit-requires-clause-own g c = c.requires.own
 
 pub measure-requires-clause-own : goal.measure-requires-clause-own
-measure-requires-clause-own g c κs within = c.requires.own
+measure-requires-clause-own g c = c.requires.own

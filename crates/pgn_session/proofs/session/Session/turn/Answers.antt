@@ -75,4 +75,4 @@ returns-then-eq-clause-over g c = λ over.
     record { own = c.step.ensures.own; over = c.step.ensures.over (c.in_ok-step.was ∙ ap Ok ended); rested = c.step.ensures.rested (c.in_ok-step.was ∙ ap Ok ended) }
 
 pub step-requires-clause-served : goal.step-requires-clause-served
-step-requires-clause-served g c κs within = read-served c.args.self.now c.read_before_line.new.self c.read_before_line.ensures.same (g.H.Hub.shape c.args.hub.now) c.requires.ready.served
+step-requires-clause-served g c = read-served c.args.self.now c.read_before_line.new.self c.read_before_line.ensures.same (g.H.Hub.shape c.args.hub.now) c.requires.ready.served

@@ -1,5 +1,5 @@
 use Rattle.pgn_live.proofs.WorkLaws.{begin-halves, goes-again, goes-behind, goes-begun, goes-front, gone-both, gone-more, gone-none, halves-played, neither-played}
-use Rattle.pgn_live.proofs.live_sessions.LiveSessionsWorkSessionTelling.laws.Goals as goal
+use Rattle.pgn_live.proofs.live_sessions.LiveWorkSessionTelling.laws.Goals as goal
 
 pub returns-clause-goes_begun : goal.returns-clause-goes_begun
 returns-clause-goes_begun g c = goes-begun (g.H.Hub.is_pass c.args.self.now.hub.now) (g.H.Hub.shape c.args.self.now.hub.now) g.P.PassView.known c.args.self.now.outlet.now
