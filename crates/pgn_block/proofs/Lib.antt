@@ -1,3 +1,5 @@
+pub mod KeptLemmas
+pub mod CountLaws
 pub mod StepLaws
 pub mod EffectLaws
 pub mod OnlyLaws

@@ -5,8 +5,8 @@ use Rattle.pgn_base.specs.declared.note.Note.{Note}
 use Rattle.pgn_base.specs.declared.listen_set.Action.{Action}
 use Rattle.pgn_answers.specs.Answers.{Commits}
 use Rattle.pgn_answers.specs.Savepoints.{Change, Acted, Noted, surviving_actions}
-use Rattle.pgn_pending.specs.Kept.{kept, StandsFor}
-use Rattle.pgn_pending.proofs.KeptLemmas.{after-acted, after-noted, kept-actions, kept-notes}
+use Rattle.pgn_block.specs.Kept.{kept, StandsFor}
+use Rattle.pgn_block.proofs.KeptLemmas.{after-acted, after-noted, kept-actions, kept-notes}
 use Rattle.pgn_block.specs.declared.effect.Effect.{Effect}
 use Rattle.pgn_block.specs.declared.effect.Effect.TheVariants.{Commit}
 use Rattle.pgn_block.specs.Effects.{effect_of}

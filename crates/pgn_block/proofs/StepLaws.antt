@@ -10,7 +10,7 @@ use Rattle.pgn_answers.specs.Answers.{Outcome, Commits, Replies, Refuses, Silent
 use Rattle.pgn_answers.specs.laws.Answers.{is_silent, is_empty_line}
 use Rattle.pgn_answers.specs.Savepoints.{Change, changes_of, live_names}
 use Rattle.pgn_answers.proofs.AnswerLemmas.{silent-empty}
-use Rattle.pgn_pending.specs.Kept.{HasHistory, StandsFor}
+use Rattle.pgn_block.specs.Kept.{HasHistory, StandsFor}
 use Rattle.pgn_block.specs.declared.effect.Effect.{Effect}
 use Rattle.pgn_block.specs.declared.effect.Effect.TheVariants.{Nothing}
 use Rattle.pgn_block.specs.declared.stage.Stage.{Stage}

@@ -1,3 +1,5 @@
+pub mod Kept
+pub mod Counts
 pub mod Views
 pub mod Effects
 pub mod Steps

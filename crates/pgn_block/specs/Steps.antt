@@ -7,7 +7,7 @@ use Rattle.pgn_answers.specs.declared.block_state.BlockState.TheVariants.{Idle, 
 use Rattle.pgn_base.specs.declared.command.Command.{Command}
 use Rattle.pgn_answers.specs.Answers.{Outcome, Commits, Replies, GivesChannels, GivesUsage, in_state, ignored, answer, next_state}
 use Rattle.pgn_answers.specs.Savepoints.{Change, changes_of, live_names}
-use Rattle.pgn_pending.specs.Kept.{StandsFor}
+use Rattle.pgn_block.specs.Kept.{StandsFor}
 use Rattle.pgn_block.specs.declared.effect.Kind.{Kind}
 use Rattle.pgn_block.specs.declared.effect.Kind.TheVariants.{ListeningChannels, QueueUsage}
 use Rattle.pgn_block.specs.declared.effect.Effect.{Effect}

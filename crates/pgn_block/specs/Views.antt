@@ -2,7 +2,7 @@
 use Rattle.std.specs.Prelude.{[]}
 use Rattle.pgn_answers.specs.declared.block_state.BlockState.{BlockState}
 use Rattle.pgn_answers.specs.declared.block_state.BlockState.TheVariants.{Idle, InBlock, Failed}
-use Rattle.pgn_pending.specs.Kept.{Kept, kept}
+use Rattle.pgn_block.specs.Kept.{Kept, kept}
 use Rattle.pgn_block.specs.declared.stage.Stage.{Stage}
 use Rattle.pgn_block.specs.declared.stage.Stage.TheVariants as stage
 

@@ -1,7 +1,7 @@
 ghost use Rattle.std.specs.Prelude.{◌≡◌, ◌↔◌, ℕ, List, ◌++◌, IsTrue, IsErr, IfOk, OnOk, OnErr};
 ghost use Rattle.pgn_answers.specs.Savepoints.{Change, changes_of, live_names};
 ghost use Rattle.pgn_answers.specs.Answers.{answer, next_state, list_after};
-ghost use Rattle.pgn_pending.specs.Kept.{HasHistory, StandsFor};
+ghost use Rattle.pgn_block.specs.Kept.{HasHistory, StandsFor};
 ghost use Rattle.pgn_block.specs.Views.{idle_view};
 ghost use Rattle.pgn_block.specs.Effects.{effect_of, takes_memory};
 
@@ -25,7 +25,7 @@ impl Drop for Block {
 }
 
 impl Model for Block {
-    ghost use Rattle.pgn_pending.specs.Kept.{HasHistory};
+    ghost use Rattle.pgn_block.specs.Kept.{HasHistory};
     ghost use Rattle.pgn_block.specs.Views.{BlockView, view_of};
 
     ghost Value = { BlockView };

@@ -2,17 +2,17 @@ ghost use Rattle.std.specs.Prelude.{◌≡◌, ℕ, not, List, [], ◌∷◌, Is
 ghost use Rattle.pgn_answers.specs.Savepoints.{Change, Acted, Noted};
 ghost use Rattle.pgn_answers.specs.Answers.{Commits};
 ghost use Rattle.pgn_answers.specs.laws.Answers.{is_in_block, is_failed};
-ghost use Rattle.pgn_pending.specs.Kept.{StandsFor};
+ghost use Rattle.pgn_block.specs.Kept.{StandsFor};
 ghost use Rattle.pgn_block.specs.Views.{view_of, idle_view};
 ghost use Rattle.pgn_block.specs.Effects.{effect_of, takes_memory};
 ghost use Rattle.pgn_block.specs.Steps.{Steps, IsStep, failed_view, open_view, opens, sends, asks};
 
+use crate::pending::{NoSuch, Pending};
 use crate::{Effect, Kind};
 use pgn_answers::BlockState;
 use pgn_base::{
     Action, Actions, Command, Name, Needs, Note, Notes, Refusal, Seed, Seq, Tag, Warning, Which,
 };
-use pgn_pending::{NoSuch, Pending};
 use std::alloc::{AllocError, Global};
 use std::mem;
 

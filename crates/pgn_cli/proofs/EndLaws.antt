@@ -9,12 +9,12 @@ use Rattle.pgn_language.specs.Inputs.{ReadsAsScenario}
 use Rattle.pgn_check.specs.declared.check.Verdict.TheVariants as verdict
 use Rattle.pgn_model.specs.Walk.{Settings}
 use Rattle.pgn_run.specs.Checking.{HasFault, IsJudged, verdict_text}
-use Rattle.pgn_run.specs.Conversation.{BreaksOff}
+use Rattle.pgn_service.specs.Conversation.{BreaksOff}
 use Rattle.pgn_run.specs.declared.status.Status.{Status}
 use Rattle.pgn_run.specs.declared.status.Status.TheVariants.{Done, BadWords, BadScenario, ReadFault, WriteFault, NoMemory, BadWire, Illegal, NoOutput, CheckTooLarge, BadFrame}
 use Rattle.pgn_frames.specs.declared.frame_fault.FrameFault.{FrameFault}
 use Rattle.pgn_run.specs.Run.{code_of}
-use Rattle.pgn_run.proofs.ConversationLaws.{unopened-known}
+use Rattle.pgn_service.proofs.ConversationLaws.{unopened-known}
 use Rattle.pgn_cli.specs.declared.arguments.NoWords.{NoWords}
 use Rattle.pgn_cli.specs.declared.arguments.NoWords.TheVariants.{Memory, NotText}
 use Rattle.pgn_cli.specs.FaultLine.{fault_text}

@@ -12,11 +12,11 @@ use Rattle.pgn_model.specs.Walk.{Settings}
 use Rattle.pgn_options.specs.Words.{AreNoCommand}
 use Rattle.pgn_wire.specs.Serving.{WroteWhole}
 use Rattle.pgn_run.specs.Checking.{HasFault, HasNoOutput, IsJudged, IsTooLarge, verdict_text}
-use Rattle.pgn_run.specs.Conversation.{BreaksOff, StopsAmong, StopsBetween}
+use Rattle.pgn_service.specs.Conversation.{BreaksOff, StopsAmong, StopsBetween}
 use Rattle.pgn_run.specs.declared.status.Status.{Status}
 use Rattle.pgn_run.specs.declared.status.Status.TheVariants.{Done, BadWords, BadScenario, ReadFault, WriteFault, NoMemory, BadWire, Illegal, NoOutput, CheckTooLarge, BadFrame}
 use Rattle.pgn_frames.specs.declared.frame_fault.FrameFault.{FrameFault}
-use Rattle.pgn_run.specs.Service.{ServesAll, ServesFirst, StopsServing}
+use Rattle.pgn_service.specs.Service.{ServesAll, ServesFirst, StopsServing}
 use Rattle.pgn_run.specs.Run.{AskToCheck, AskToRunLive, AskToServe, AskToWire, Performs, PerformsInPart, SoFarRuns, asked_settings, code_of, settings_with}
 use Rattle.pgn_cli.specs.FaultLine.{fault_text, frame_fault_text, scenario_fault_text, wire_fault_text}
 use Rattle.pgn_cli.specs.declared.arguments.NoWords.{NoWords}

@@ -11,7 +11,8 @@ mod program;
 
 use arguments::words;
 use fault_line::fault_line;
-use pgn_run::{Means, Status};
+use pgn_run::Status;
+use pgn_service::Means;
 use pgn_streams::{Input, Output, drawn};
 use program::program;
 use std::io::BufReader;

@@ -4,14 +4,15 @@ ghost use Rattle.pgn_base.specs.Outside.{AppendsPrefix, Rose};
 ghost use Rattle.pgn_options.specs.Words.{AreNoCommand};
 ghost use Rattle.pgn_wire.specs.Serving.{WroteWhole};
 ghost use Rattle.pgn_run.specs.Checking.{HasNoOutput, IsTooLarge};
-ghost use Rattle.pgn_run.specs.Conversation.{StopsAmong, StopsBetween};
+ghost use Rattle.pgn_service.specs.Conversation.{StopsAmong, StopsBetween};
 ghost use Rattle.pgn_run.specs.Run.{AskToCheck, AskToRunLive, AskToServe, AskToWire, Performs, PerformsInPart, SoFarRuns, asked_settings, settings_with};
 ghost use Rattle.pgn_cli.specs.Program.{Comes, Ends, NamesFault, NamesWireFault, SaysBadFrame, SaysIllegal, ServedFirst, ServedInPart, texts_of};
 
 use crate::arguments::NoWords;
 use crate::fault_line::fault_line;
 use pgn_base::{Sink, Source};
-use pgn_run::{Means, Status, run_notify};
+use pgn_run::{Status, run_notify};
+use pgn_service::Means;
 use std::alloc::{AllocError, Global};
 use std::sync::Wait;
 use std::thread::Threads;

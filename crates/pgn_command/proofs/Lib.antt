@@ -1,3 +1,4 @@
+pub mod QuoteLaws
 pub mod GapLaws
 pub mod TokenSteps
 pub mod FormSteps

@@ -9,16 +9,16 @@ use Rattle.pgn_language.specs.Tokens.{Lexeme, Word, Number, Sign, Quoted, Litera
 use Rattle.pgn_language.proofs.SlotLaws.{tokens-skip}
 use Rattle.std.proofs.lemmas.Bool.{eqb-true, eqb-false, cases_Bool}
 use Rattle.std.proofs.lemmas.Bool.Decides.{nat_tests}
-use Rattle.pgn_quotes.specs.Texts.{single, IsInside}
+use Rattle.pgn_command.specs.Texts.{single, IsInside}
 use denote.Bor.{Bor}
 use Rattle.pgn_command.specs.Lexing.{shown, EndsAt, HasDigits, Starts, IsStuck, IsRead}
 use Rattle.pgn_command.specs.declared.bytes.Start.{Start as Begins}
 use Rattle.pgn_command.specs.declared.token.Lexeme.{Lexeme as Kinds}
-use Rattle.pgn_quotes.specs.declared.enclosed.Enclosed.{Enclosed as Found}
+use Rattle.pgn_command.specs.declared.enclosed.Enclosed.{Enclosed as Found}
 use Rattle.pgn_command.specs.declared.bytes.Start.TheVariants as start
 use Rattle.pgn_command.specs.declared.token.Lexeme.TheVariants as lexeme
 use Rattle.pgn_command.proofs.GapLaws.{of_kind, after_front, front-passes, front-fails, front-bound, begins-goes_on, sign-ascii}
-use Rattle.pgn_quotes.proofs.QuoteLaws.{once-some}
+use Rattle.pgn_command.proofs.QuoteLaws.{once-some}
 
 abbrev one : Lexeme → ℕ → List Token → List Token
 one lexeme at tokens = let token : Token = record { lexeme = lexeme; at = at } in token ∷ tokens

@@ -3,7 +3,7 @@ use Rattle.std.specs.Prelude.{◌≡◌, ℕ, ◌+◌, Bool, true, false, List, 
 use Rattle.std.specs.Char.{is_ascii_digit}
 use Rattle.std.specs.Str.Parse.{IsNumeral}
 use Rattle.pgn_language.specs.Tokens as model
-use Rattle.pgn_quotes.specs.Texts.{single}
+use Rattle.pgn_command.specs.Texts.{single}
 use Rattle.pgn_command.specs.declared.bytes.Start.{Start}
 use Rattle.pgn_command.specs.declared.bytes.Start.TheVariants as start
 use Rattle.pgn_command.specs.declared.token.Lexeme.{Lexeme}

@@ -1,3 +1,4 @@
+pub mod Texts
 pub mod Lexing
 pub mod Statements
 pub mod Reading

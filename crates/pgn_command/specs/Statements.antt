@@ -6,7 +6,7 @@ use Rattle.pgn_base.specs.declared.command.Command.{Command}
 use Rattle.pgn_base.specs.declared.command.Command.TheVariants as command
 use Rattle.pgn_language.specs.Tokens as model
 use Rattle.pgn_language.specs.Grammar.{Name, name_of}
-use Rattle.pgn_quotes.specs.Texts.{single}
+use Rattle.pgn_command.specs.Texts.{single}
 use Rattle.pgn_command.specs.Reading.{noted, Ahead, Argument, takes, front_lexeme, front_at}
 use Rattle.pgn_command.specs.declared.statement.Ident.{Ident}
 use Rattle.pgn_command.specs.declared.statement.Ident.TheVariants as ident

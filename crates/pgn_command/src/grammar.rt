@@ -4,10 +4,10 @@ ghost use Rattle.pgn_command.specs.Reading as told;
 ghost use Rattle.pgn_command.specs.Statements.{Gives, GivesText, IsNamed, IsUnnamed, meant, ident_lexeme};
 ghost use Rattle.pgn_command.specs.declared.verb.Verb.TheVariants as verb;
 
+use crate::Enclosed;
 use crate::parser::Parser;
 use crate::statement::{Ident, Statement, Stop, Text};
 use crate::verb::{Verb, is_word};
-use pgn_quotes::Enclosed;
 
 impl<'a> Parser<'a> {
     /// The statement that the tokens ahead are, to the end of the line, or where they go wrong.

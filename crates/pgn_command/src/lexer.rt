@@ -6,8 +6,8 @@ ghost use Rattle.pgn_command.specs.Lexing.{shown, IsStart, EndsAt, HasDigits, St
 ghost use Rattle.pgn_command.specs.declared.bytes.Start.TheVariants as start;
 
 use crate::bytes::{Start, blanks, digits, is_comment, start_of, word_bytes};
+use crate::inside;
 use crate::token::{Lexeme, Token};
-use pgn_quotes::inside;
 
 /// What is left of a line, and the byte of the line where it begins.
 #[derive(Drop)]

@@ -9,15 +9,20 @@
 //! `Statement`, whose names and texts are still parts of the line, and `command_of` builds these. A text
 //! between quotes and a text that is repeated are measured before they are built.
 //!
+//! Of `it''s' ..`, which follows an opening quote, `inside` gives `it''s` as a part of what was read (`Enclosed`), exactly where
+//! `closed` of `pgn_language` finds a closing quote; `unquoted` makes `it's` of this.
+//!
 //! A session asks `parse_line(alloc, "NOTIFY c, 'it''s'")` for `Notify` with the channel `c` and the payload `it's`.
 #![tactic(auto)]
 
 mod bytes;
 mod commands;
+mod enclosed;
 mod grammar;
 mod lexer;
 mod line_parsing;
 mod parser;
+mod quotes;
 mod statement;
 mod texts;
 mod token;
@@ -25,8 +30,10 @@ mod verb;
 
 pub use bytes::{blanks, is_blank};
 pub use commands::pg_notify;
+pub use enclosed::Enclosed;
 pub use lexer::Lexer;
 pub use line_parsing::parse_line;
+pub use quotes::{inside, unquoted};
 pub use statement::Text;
 pub use texts::cut;
 pub use token::{Lexeme, Token};

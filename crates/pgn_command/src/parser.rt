@@ -3,16 +3,16 @@ ghost use Rattle.std.specs.Str.Parse.{IsNumeral, digits_value};
 ghost use Rattle.pgn_base.specs.declared.limits.TheConstants.{LINE_BYTES_MAX};
 ghost use Rattle.pgn_language.specs.Tokens.{tokens};
 ghost use Rattle.pgn_language.specs.Grammar.{Key, Name, Quote, Count, Punct, text_of, value_of};
-ghost use Rattle.pgn_quotes.specs.Texts.{single};
+ghost use Rattle.pgn_command.specs.Texts.{single};
 ghost use Rattle.pgn_command.specs.Reading.{front_lexeme, front_at, front_verb, nothing_ahead, takes, IsTaken, IsKept};
 ghost use Rattle.pgn_command.specs.Statements.{ident_lexeme};
 
+use crate::Enclosed;
 use crate::lexer::Lexer;
 use crate::statement::{Ident, Stop};
 use crate::token::{Lexeme, Token};
 use crate::verb::{Verb, is_word, verb_of};
 use pgn_base::REPEATS_MAX;
-use pgn_quotes::Enclosed;
 use std::marker::Model;
 
 /// The tokens of a line that are ahead: the first of them, and what is left of the line after it.

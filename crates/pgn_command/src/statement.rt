@@ -1,7 +1,7 @@
 ghost use Rattle.std.specs.Prelude.{◌≤◌};
 ghost use Rattle.pgn_base.specs.declared.limits.TheConstants.{LINE_BYTES_MAX};
 
-use pgn_quotes::Enclosed;
+use crate::Enclosed;
 
 /// A name as the line has it: a word, or a quoted identifier. It is neither folded nor cut.
 #[derive(Clone, Copy)]

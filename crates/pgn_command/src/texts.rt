@@ -6,8 +6,8 @@ ghost use Rattle.pgn_language.specs.Grammar as grammar;
 ghost use Rattle.pgn_command.specs.Statements.{ident_name, is_folded, text_bytes};
 
 use crate::statement::{Ident, Text};
+use crate::unquoted;
 use pgn_base::{NAME_BYTES_MAX, Name, Payload};
-use pgn_quotes::unquoted;
 use std::alloc::{AllocError, Global};
 
 /// Up to so many times a text is repeated one by one; more often by doubling what is there.

@@ -1,4 +1,4 @@
-use pgn_quotes::Enclosed;
+use crate::Enclosed;
 
 /// What a token is, as the line has it, or the end of the line.
 #[derive(Clone, Copy)]

@@ -15,9 +15,9 @@ use Rattle.pgn_queries.proofs.OneLaws.{fronts, next_one}
 use Rattle.pgn_queries.proofs.EachLaws.{next_comes}
 use Rattle.pgn_requests.specs.Reading.{RequestIs}
 use Rattle.pgn_requests.proofs.RequestLaws.{each_request, one_request}
-use Rattle.pgn_turns.specs.declared.asked.Ask.{Ask}
-use Rattle.pgn_turns.specs.declared.asked.Ask.TheVariants as ask
-use Rattle.pgn_turns.specs.declared.asked.Parting.TheVariants.{Refused, Extended, Spent}
+use Rattle.pgn_messages.specs.declared.asked.Ask.{Ask}
+use Rattle.pgn_messages.specs.declared.asked.Ask.TheVariants as ask
+use Rattle.pgn_messages.specs.declared.asked.Parting.TheVariants.{Refused, Extended, Spent}
 use Rattle.pgn_frames.specs.Clients as clients
 use Rattle.pgn_frames.specs.Clients.{AreTooMany, AskIs, ClientAsks, Close, Open, Left, Cut, Wrong, QueryNext, SeatAsks, Tally, after_ask, asked_as, begins_extended, is_extended, last_end, next_client, next_line, parting_of}
 use Rattle.pgn_frames.specs.Laws.{EachIsAsked, OneAsking}

@@ -6,10 +6,10 @@ use Rattle.pgn_outlet.specs.declared.came.Came.{Came}
 use Rattle.pgn_outlet.specs.declared.hand.Hand.{Hand}
 use Rattle.pgn_outlet.specs.Passes.{knows}
 use Rattle.pgn_outlet.specs.Rule.{MayPush}
-use Rattle.pgn_turns.specs.declared.asked.Ask.{Ask}
-use Rattle.pgn_turns.specs.declared.asked.Ask.TheVariants as ask
-use Rattle.pgn_turns.specs.declared.asked.Parting.{Parting}
-use Rattle.pgn_turns.specs.declared.asked.Parting.TheVariants.{Spent}
+use Rattle.pgn_messages.specs.declared.asked.Ask.{Ask}
+use Rattle.pgn_messages.specs.declared.asked.Ask.TheVariants as ask
+use Rattle.pgn_messages.specs.declared.asked.Parting.{Parting}
+use Rattle.pgn_messages.specs.declared.asked.Parting.TheVariants.{Spent}
 use Rattle.pgn_frames.specs.declared.caller.Caller.{Caller}
 use Rattle.pgn_frames.specs.Clients.{QueryNext, SeatAsks, Tally}
 use Rattle.pgn_frames.specs.Callers.{AskOn, HasAsked, HasCome, HasEnded, IsSpent, IsUnfinished, PartsBy, Stand, Takes, TakesBytes, TakesFirst, TakesFirstBytes, Waits, behind_end, carried, holding, parting_behind, stand_of, with_put}

@@ -26,9 +26,9 @@ use Rattle.pgn_requests.specs.Texts.{bare}
 use Rattle.pgn_requests.specs.Phrases.{refused}
 use Rattle.pgn_requests.specs.Reading as requests
 use Rattle.pgn_requests.specs.Reading.{RequestIs, body_of, request_of}
-use Rattle.pgn_turns.specs.declared.asked.Ask.{Ask}
-use Rattle.pgn_turns.specs.declared.asked.Ask.TheVariants.{Discard, End, Query, Settle}
-use Rattle.pgn_turns.specs.declared.asked.Parting.TheVariants.{Plain, Refused, Extended, Spent}
+use Rattle.pgn_messages.specs.declared.asked.Ask.{Ask}
+use Rattle.pgn_messages.specs.declared.asked.Ask.TheVariants.{Discard, End, Query, Settle}
+use Rattle.pgn_messages.specs.declared.asked.Parting.TheVariants.{Plain, Refused, Extended, Spent}
 use Rattle.pgn_frames.specs.declared.frame_fault.FrameFault.{FrameFault}
 use Rattle.pgn_frames.specs.declared.frame_fault.FrameFault.TheVariants.{CutFrame}
 use Rattle.pgn_frames.specs.Frames as frames

@@ -7,7 +7,7 @@ use Rattle.pgn_queries.specs.declared.wire_fault.WireFault.TheVariants.{BadLengt
 use Rattle.pgn_queries.specs.declared.coming.Coming.TheVariants.{Fault}
 use Rattle.pgn_queries.specs.Client as client
 use Rattle.pgn_queries.specs.Client.{IsQueryLength, Tells}
-use Rattle.pgn_turns.specs.declared.asked.Parting.TheVariants.{Plain, Refused, Extended}
+use Rattle.pgn_messages.specs.declared.asked.Parting.TheVariants.{Plain, Refused, Extended}
 use Rattle.pgn_frames.specs.Clients as clients
 use Rattle.pgn_frames.specs.Clients.{Left, Wrong, QueryNext, Tally, is_extended}
 use Rattle.pgn_frames.specs.Callers.{IsUnfinished, PartsBy, QueryTo}

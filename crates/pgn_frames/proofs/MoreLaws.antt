@@ -5,7 +5,7 @@ use Rattle.pgn_queries.specs.declared.coming.Coming.{Coming}
 use Rattle.pgn_queries.specs.declared.coming.Coming.TheVariants.{End, Fault}
 use Rattle.pgn_queries.specs.Client as client
 use Rattle.pgn_queries.specs.Client.{BodyIs, NextIs, QueryIs, TerminateIs, body_of}
-use Rattle.pgn_turns.specs.declared.asked.Ask.TheVariants as ask
+use Rattle.pgn_messages.specs.declared.asked.Ask.TheVariants as ask
 use Rattle.pgn_frames.specs.Clients as clients
 use Rattle.pgn_frames.specs.Clients.{ClientAsks, Close, Open, Left, Cut, Wrong, Tally, after_ask, begins_extended, last_end, parting_of}
 use Rattle.pgn_frames.specs.Callers.{IsTold, PartsBy}

@@ -2,9 +2,9 @@
 use Rattle.std.proofs.Common.{◌≡◌, ℕ, ◌+◌, List, ◌∷◌, ◌++◌, length, sym, subst, refl, arith}
 use Rattle.pgn_requests.specs.declared.request.Request.{Request}
 use Rattle.pgn_requests.specs.declared.request.Request.TheVariants.{Line, Settles, Discards}
-use Rattle.pgn_turns.specs.declared.asked.Ask.{Ask}
-use Rattle.pgn_turns.specs.declared.asked.Ask.TheVariants as ask
-use Rattle.pgn_turns.specs.Asks.{GoOnFrom, lines_for}
+use Rattle.pgn_messages.specs.declared.asked.Ask.{Ask}
+use Rattle.pgn_messages.specs.declared.asked.Ask.TheVariants as ask
+use Rattle.pgn_messages.specs.Asks.{GoOnFrom, lines_for}
 use Rattle.pgn_frames.specs.Clients as clients
 use Rattle.pgn_frames.specs.Clients.{AskIs, Close, Open, Left, Cut, Wrong, ClientAsks, Tally, after_ask, asked_as, last_end, next_client, next_line, parting_of}
 use Rattle.pgn_frames.specs.Laws.{NumbersGoOn}

@@ -9,7 +9,7 @@ use Rattle.pgn_outlet.specs.declared.outlet.Outlet.{Outlet}
 use Rattle.pgn_outlet.specs.Passes.{IsPassOf, knows}
 use Rattle.pgn_outlet.specs.Rule.{MayPush, sender}
 use Rattle.pgn_queries.specs.Client.{OfKnown}
-use Rattle.pgn_turns.specs.declared.asked.Ask.{Ask}
+use Rattle.pgn_messages.specs.declared.asked.Ask.{Ask}
 use Rattle.pgn_frames.specs.declared.frame_fault.FrameFault.{FrameFault}
 use Rattle.pgn_frames.specs.declared.framing.NoFrame.{NoFrame}
 use Rattle.pgn_frames.specs.declared.framing.NoFrame.TheVariants.{Failed, Memory}

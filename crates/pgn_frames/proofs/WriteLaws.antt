@@ -12,8 +12,8 @@ use Rattle.pgn_outlet.proofs.CameLaws.{what_of-append}
 use Rattle.pgn_text.specs.declared.out.Out.{Out}
 use Rattle.pgn_text.specs.Rendering.{Puts}
 use Rattle.pgn_text.proofs.PutsLaws.{Puts-none, Puts-trans, Puts-same}
-use Rattle.pgn_turns.specs.declared.saying.Saying.{Saying}
-use Rattle.pgn_turns.specs.Sayings.{all_told, signs_told}
+use Rattle.pgn_messages.specs.declared.saying.Saying.{Saying}
+use Rattle.pgn_messages.specs.Sayings.{all_told, signs_told}
 use Rattle.pgn_frames.specs.Frames.{Frame, IsFrame, frame_bytes, signs_in, signs_of}
 use Rattle.pgn_frames.specs.Writing.{Gave, Wrote}
 use Rattle.pgn_frames.proofs.SignLaws.{signs_of-append}

@@ -6,10 +6,10 @@ use Rattle.pgn_outlet.specs.Passes.{knows}
 use Rattle.pgn_queries.specs.declared.wire_fault.WireFault.TheVariants.{Truncated}
 use Rattle.pgn_queries.specs.declared.coming.Coming.TheVariants.{Fault}
 use Rattle.pgn_queries.specs.Client.{NextIs}
-use Rattle.pgn_turns.specs.declared.asked.Ask.{Ask}
-use Rattle.pgn_turns.specs.declared.asked.Ask.TheVariants.{End}
-use Rattle.pgn_turns.specs.declared.asked.Parting.{Parting}
-use Rattle.pgn_turns.specs.declared.asked.Parting.TheVariants.{Plain, Refused}
+use Rattle.pgn_messages.specs.declared.asked.Ask.{Ask}
+use Rattle.pgn_messages.specs.declared.asked.Ask.TheVariants.{End}
+use Rattle.pgn_messages.specs.declared.asked.Parting.{Parting}
+use Rattle.pgn_messages.specs.declared.asked.Parting.TheVariants.{Plain, Refused}
 use Rattle.pgn_frames.specs.declared.caller.Caller.{Caller}
 use Rattle.pgn_frames.specs.declared.message.Front.{Front}
 use Rattle.pgn_frames.specs.declared.message.Front.TheVariants as front

@@ -8,11 +8,11 @@ use Rattle.pgn_queries.specs.Client.{IsQueryLength, NextIs, Tells, TerminateIs, 
 use Rattle.pgn_requests.specs.declared.request.Request.{Request}
 use Rattle.pgn_requests.specs.declared.request.Request.TheVariants.{Line, Settles, Discards}
 use Rattle.pgn_requests.specs.Reading.{RequestIs}
-use Rattle.pgn_turns.specs.declared.asked.Ask.{Ask}
-use Rattle.pgn_turns.specs.declared.asked.Ask.TheVariants.{Query, Settle, Discard, End}
-use Rattle.pgn_turns.specs.declared.asked.Parting.{Parting}
-use Rattle.pgn_turns.specs.declared.asked.Parting.TheVariants.{Plain, Refused, Extended, Spent}
-use Rattle.pgn_turns.specs.Asks.{lines_for}
+use Rattle.pgn_messages.specs.declared.asked.Ask.{Ask}
+use Rattle.pgn_messages.specs.declared.asked.Ask.TheVariants.{Query, Settle, Discard, End}
+use Rattle.pgn_messages.specs.declared.asked.Parting.{Parting}
+use Rattle.pgn_messages.specs.declared.asked.Parting.TheVariants.{Plain, Refused, Extended, Spent}
+use Rattle.pgn_messages.specs.Asks.{lines_for}
 
 -- what was counted of what a seat is asked: the lines of its script, those of them that notify, and how many may
 pub record Tally : Type 0 where

@@ -4,10 +4,10 @@ use Rattle.pgn_base.specs.declared.command.Command.TheVariants as command
 use Rattle.pgn_requests.specs.declared.complaint.Complaint.{Complaint}
 use Rattle.pgn_requests.specs.declared.complaint.Cause.TheVariants.{BadMessage}
 use Rattle.pgn_requests.specs.declared.complaint.Wording.TheVariants as wording
-use Rattle.pgn_turns.specs.declared.asked.Asked.{Asked}
-use Rattle.pgn_turns.specs.declared.asked.Ask.{Ask}
-use Rattle.pgn_turns.specs.declared.asked.Ask.TheVariants.{Query, End}
-use Rattle.pgn_turns.specs.declared.asked.Parting.TheVariants.{Plain}
+use Rattle.pgn_messages.specs.declared.asked.Asked.{Asked}
+use Rattle.pgn_messages.specs.declared.asked.Ask.{Ask}
+use Rattle.pgn_messages.specs.declared.asked.Ask.TheVariants.{Query, End}
+use Rattle.pgn_messages.specs.declared.asked.Parting.TheVariants.{Plain}
 use Rattle.pgn_queries.specs.Examples.{asks_listen}
 use Rattle.pgn_frames.specs.Frames.{Frame}
 

@@ -1,7 +1,7 @@
 -- Each input has one reading.
 use Rattle.std.specs.Prelude.{◌≡◌, ℕ, ◌+◌, ◌<◌, List, ◌++◌, length, Option, ◌≤◌, ◌∷◌, None, All, flat_map}
-use Rattle.pgn_turns.specs.declared.asked.Ask.{Ask}
-use Rattle.pgn_turns.specs.Asks.{GoOnFrom}
+use Rattle.pgn_messages.specs.declared.asked.Ask.{Ask}
+use Rattle.pgn_messages.specs.Asks.{GoOnFrom}
 use Rattle.pgn_frames.specs.declared.frame_fault.FrameFault.{FrameFault}
 use Rattle.pgn_frames.specs.Frames.{Frame, FramesAre, IsFrame, frame_bytes, signs_of}
 use Rattle.pgn_frames.specs.Clients.{ClientAsks, Close, QueryNext, SeatAsks, Tally}

@@ -5,8 +5,8 @@ use Rattle.pgn_outlet.specs.declared.hand.Hand.{Hand}
 use Rattle.pgn_outlet.specs.Cames.{what_of}
 use Rattle.pgn_text.specs.declared.out.Out.{Out}
 use Rattle.pgn_text.specs.Rendering.{Puts}
-use Rattle.pgn_turns.specs.declared.saying.Saying.{Saying}
-use Rattle.pgn_turns.specs.Sayings.{all_told}
+use Rattle.pgn_messages.specs.declared.saying.Saying.{Saying}
+use Rattle.pgn_messages.specs.Sayings.{all_told}
 use Rattle.pgn_frames.specs.Frames.{Frame, IsFrame, frame_bytes, signs_of}
 
 -- these frames carry, seat by seat, what came for it, whole and in order, and nothing else

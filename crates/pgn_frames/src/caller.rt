@@ -2,8 +2,8 @@ ghost use Rattle.std.specs.Prelude.{◌≡◌};
 ghost use Rattle.pgn_frames.specs.Callers.{first_stand, stand_of};
 
 use crate::counts::Counts;
+use pgn_messages::Ask;
 use pgn_outlet::OutletPass;
-use pgn_turns::Ask;
 use std::alloc::Global;
 
 /// The clients of a seat, one after another, as their bytes come. It keeps at most one message that is not whole yet, and gives its memory

@@ -1,13 +1,13 @@
 //! What was counted of what a seat was asked.
 ghost use Rattle.std.specs.Prelude.{◌≡◌, ◌+◌, ◌≤◌, length, IfNone, IfSome, IsFalse, IsTrue, OnSome};
 ghost use Rattle.pgn_language.specs.Inputs.{is_note_command, note_lines_of};
-ghost use Rattle.pgn_turns.specs.Asks.{lines_for};
+ghost use Rattle.pgn_messages.specs.Asks.{lines_for};
 ghost use Rattle.pgn_frames.specs.Callers.{behind_end};
 ghost use Rattle.pgn_frames.specs.Clients.{AreTooMany, after_ask, first_tally};
 
 use pgn_base::Command;
+use pgn_messages::Ask;
 use pgn_queries::QUERIES_MAX;
-use pgn_turns::Ask;
 use std::marker::Model;
 
 // The lines of a seat's script so far, how many of them notify, and how many may. Contracts see it as a tally.

@@ -2,9 +2,9 @@ ghost use Rattle.std.specs.Prelude.{◌≡◌, [], ◌∷◌, ◌++◌, map, tak
 ghost use Rattle.pgn_base.specs.declared.limits.TheConstants.{NOTE_LINES_MAX};
 ghost use Rattle.pgn_queries.specs.Examples.{asks_listen, asks_notify, asks_two_ends, terminates};
 ghost use Rattle.pgn_requests.specs.declared.settled.Settled.TheVariants.{One};
-ghost use Rattle.pgn_turns.specs.declared.asked.Ask.{Ask};
-ghost use Rattle.pgn_turns.specs.declared.asked.Ask.TheVariants.{Discard, End, Query, Settle};
-ghost use Rattle.pgn_turns.specs.declared.asked.Parting.TheVariants.{Extended, Plain, Refused, Spent};
+ghost use Rattle.pgn_messages.specs.declared.asked.Ask.{Ask};
+ghost use Rattle.pgn_messages.specs.declared.asked.Ask.TheVariants.{Discard, End, Query, Settle};
+ghost use Rattle.pgn_messages.specs.declared.asked.Parting.TheVariants.{Extended, Plain, Refused, Spent};
 ghost use Rattle.pgn_frames.specs.declared.frame_fault.FrameFault.{FrameFault};
 ghost use Rattle.pgn_frames.specs.declared.frame_fault.FrameFault.TheVariants.{CutFrame, NoSeat};
 ghost use Rattle.pgn_frames.specs.Frames.{Frame, FramesAre, signs_of};

@@ -5,9 +5,9 @@ ghost use Rattle.pgn_queries.specs.Client.{query_letter, terminate_letter};
 ghost use Rattle.pgn_frames.specs.Callers.{HasFront, parting_behind};
 ghost use Rattle.pgn_frames.specs.Clients.{asked_as, is_extended};
 
+use pgn_messages::{Ask, Asked, Parting};
 use pgn_queries::{QUERY_LENGTH_MAX, QUERY_LENGTH_MIN, TERMINATE_LENGTH};
 use pgn_requests::Request;
-use pgn_turns::{Ask, Asked, Parting};
 
 // Where the body of a Query begins, behind its letter and its length.
 pub(crate) const BODY_AT: usize = 5;

@@ -10,8 +10,8 @@ use crate::taking::{SeatInbox, take_signs};
 use crate::{Arrival, Caller, FrameFault, NoFrame, next_frame};
 use pgn_base::{SessionNo, Source};
 use pgn_hub::Hub;
+use pgn_messages::Ask;
 use pgn_outlet::{Came, Outlet};
-use pgn_turns::Ask;
 use std::alloc::{AllocError, Global};
 use std::sync::Wait;
 

@@ -3,14 +3,14 @@
 ghost use Rattle.std.specs.Prelude.{◌≡◌, ◌≤◌, true, false, [], ◌∷◌, length, map, OnOk, Some};
 ghost use Rattle.pgn_outlet.specs.Passes.{HasAll, IsPassOf, knows};
 ghost use Rattle.pgn_text.specs.Rendering.{Puts};
-ghost use Rattle.pgn_turns.specs.Sayings.{signs_told};
+ghost use Rattle.pgn_messages.specs.Sayings.{signs_told};
 ghost use Rattle.pgn_frames.specs.Frames.{signs_in};
 ghost use Rattle.pgn_frames.specs.Writing.{Gave, Wrote};
 
 use pgn_base::{SessionNo, Sink};
+use pgn_messages::Saying;
 use pgn_outlet::{Bell, Outlet, OutletPass};
 use pgn_text::Out;
-use pgn_turns::Saying;
 use std::sync::Wait;
 use std::sync::atomic::{AtomicU64, Ordering};
 

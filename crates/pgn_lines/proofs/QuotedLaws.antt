@@ -10,7 +10,7 @@ use Rattle.pgn_base.specs.declared.note.Note.{Note}
 use Rattle.pgn_base.specs.Notes.{IsNote}
 use Rattle.pgn_base.specs.Texts.{IsName, IsPayload}
 use Rattle.pgn_model.specs.Text.{note_text}
-use Rattle.pgn_quotes.specs.Texts.{single, IsInside}
+use Rattle.pgn_command.specs.Texts.{single, IsInside}
 use Rattle.pgn_lines.specs.Fields.{EndsQuote, NotEnclosed, IsEnclosed, IsAlone, IsPair, pair_text}
 
 ends_get : (quote : ℕ) (rest : List ℕ) → EndsQuote quote rest → slice_get rest 0 ≢ Some quote

@@ -2,7 +2,7 @@ ghost use Rattle.std.specs.Prelude.{◌≡◌, ℕ, List, ◌<◌, ◌≤◌, le
 ghost use Rattle.pgn_base.specs.declared.limits.TheConstants.{LINE_BYTES_MAX};
 ghost use Rattle.pgn_base.specs.Texts.{IsName, IsPayload};
 ghost use Rattle.pgn_language.specs.Quotes.{quoted};
-ghost use Rattle.pgn_quotes.specs.Texts.{single};
+ghost use Rattle.pgn_command.specs.Texts.{single};
 ghost use Rattle.pgn_lines.specs.Fields.{IsAlone, IsEnclosed, IsPair, NotEnclosed, pair_text};
 ghost use Rattle.pgn_base.specs.Notes.{IsNote};
 ghost use Rattle.pgn_base.specs.declared.note.Note.{Note};
@@ -10,7 +10,7 @@ ghost use Rattle.pgn_model.specs.Text.{note_text};
 
 use crate::numbers::after;
 use pgn_base::{LINE_BYTES_MAX, Name, NameFault, Note, Payload, PayloadFault};
-use pgn_quotes::{Enclosed, inside, unquoted};
+use pgn_command::{Enclosed, inside, unquoted};
 use std::alloc::{AllocError, Global};
 
 /// What stands before a closing quote, and what follows the quote.

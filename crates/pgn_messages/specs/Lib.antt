@@ -6,3 +6,19 @@ pub mod Messages
 pub mod Laws
 -- four conversations, and an error that ends one
 pub mod Examples
+-- what a seat is asked, and its script
+pub mod Asks
+-- what a client of a service is answered
+pub mod Served
+-- and of names that are cut
+pub mod Cutting
+-- a session's trace in turns, and what is told of them
+pub mod Turns
+-- what clients are told, piece by piece
+pub mod Sayings
+-- how turns grow, and what they make of a trace
+pub mod TurnLaws
+-- worked examples
+pub mod TurnExamples
+-- what clients of a service are told beside, byte by byte
+pub mod Conversations

@@ -3,8 +3,8 @@ use Rattle.std.proofs.Common.{◌≡◌, ◌⊎◌, ◌∙◌, ℕ, ◌<◌, ◌
 use Rattle.pgn_check.specs.declared.check.Verdict.TheVariants as verdict
 use Rattle.pgn_model.specs.Walk.{Settings}
 use Rattle.pgn_run.specs.Checking.{HasFault, HasNoOutput, IsJudged, IsOfCheck, IsTooLarge, IsUntold, verdict_text}
-use Rattle.pgn_run.specs.Conversation.{BreaksOff, StopsAmong, StopsBetween}
-use Rattle.pgn_run.specs.Service.{ServesAll, ServesFirst, StopsServing}
+use Rattle.pgn_service.specs.Conversation.{BreaksOff, StopsAmong, StopsBetween}
+use Rattle.pgn_service.specs.Service.{ServesAll, ServesFirst, StopsServing}
 use Rattle.pgn_run.specs.Calls.{Performed}
 use Rattle.pgn_run.specs.declared.checking.TheConstants.{CHECK_BYTES_MAX}
 use Rattle.pgn_wire.specs.Serving.{WroteWhole}
@@ -29,7 +29,7 @@ use Rattle.pgn_options.specs.Words.{AreNoCommand, AskFor}
 use Rattle.pgn_run.proofs.AskedLaws.{check-no_drill, check-no_run, check-no_serve, check-no_wire, drill-no_check, drill-no_serve, drill-no_wire, none-serves, run-no_serve, same-seats, serve-no_check, serve-no_drill, serve-no_run, serve-no_wire, wire-no_serve, live-runs, no-drill, no-other, no-run, none-checks, none-drills, none-runs, none-wires, run-no_check, run-no_wire, same-check, same-run, shows-once, wire-no_check, wire-no_drill, wire-no_run}
 use Rattle.pgn_run.proofs.ServeLaws.{bad-serve, done-serve, memory-serve, read-serve, serve-completes, serve-refused, write-serve}
 use Rattle.pgn_run.proofs.OverLaws.{drill-completes, not-bad-frame, not-bad-scenario, not-bad-wire, not-bad-words, not-read-fault, own-drill}
-use Rattle.pgn_run.proofs.ConversationLaws.{unopened-known}
+use Rattle.pgn_service.proofs.ConversationLaws.{unopened-known}
 use Rattle.pgn_run.proofs.WireLaws.{bad-wire, done-wire, memory-wire, read-wire, wire-completes, wire-refused, write-wire}
 use Rattle.pgn_run.proofs.CheckingLaws.{answered-check, check-fault, check-large, check-none, check-part, fault-due, large-due, none-due, verdict-due}
 

@@ -7,7 +7,7 @@ use Rattle.pgn_frames.specs.Frames.{Frame, FramesAre}
 use Rattle.pgn_frames.proofs.FrameLaws.{one_framing}
 use Rattle.pgn_run.specs.declared.status.Status.{Status}
 use Rattle.pgn_run.specs.declared.status.Status.TheVariants.{Done, BadWords, BadScenario, ReadFault, WriteFault, NoMemory, BadWire, BadFrame, Illegal, NoOutput, CheckTooLarge}
-use Rattle.pgn_run.specs.Service.{ServesAll, ServesFirst, ServesInPart, StopsServing}
+use Rattle.pgn_service.specs.Service.{ServesAll, ServesFirst, ServesInPart, StopsServing}
 use Rattle.pgn_run.specs.Run.{AnswersServe, HasFrames}
 
 -- an input ends in one way

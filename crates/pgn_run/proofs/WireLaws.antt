@@ -11,7 +11,7 @@ use Rattle.pgn_queries.proofs.OneLaws.{one_reading}
 use Rattle.pgn_wire.specs.Serving.{WroteWhole}
 use Rattle.pgn_run.specs.declared.status.Status.{Status}
 use Rattle.pgn_run.specs.declared.status.Status.TheVariants.{Done, BadWords, BadScenario, ReadFault, WriteFault, NoMemory, BadWire, BadFrame, Illegal, NoOutput, CheckTooLarge}
-use Rattle.pgn_run.specs.Conversation.{BreaksOff, Converses, StopsAmong, StopsBetween}
+use Rattle.pgn_service.specs.Conversation.{BreaksOff, Converses, StopsAmong, StopsBetween}
 use Rattle.pgn_run.specs.Run.{AnswersWire, EndsIn}
 
 -- bytes end in one way

@@ -1,14 +1,12 @@
 -- What a client's session did, and what is written of it live.
 use Rattle.std.specs.Prelude.{ℕ, List, [], ◌∷◌, Some, None, codes}
-use Rattle.pgn_base.specs.declared.answers.Tag.TheVariants as tag
 use Rattle.pgn_journal.specs.declared.tx.Tx.{Tx}
 use Rattle.pgn_journal.specs.declared.tx.Fate.TheVariants.{Committed}
 use Rattle.pgn_language.specs.declared.scenario.Scenario.{Scenario}
-use Rattle.pgn_model.specs.declared.item.Item.{Item}
-use Rattle.pgn_model.specs.declared.item.Item.TheVariants.{Line, Enlist, Reply}
 use Rattle.pgn_model.specs.declared.trace.Trace.{Trace}
 use Rattle.pgn_queries.specs.Script.{wire_scenario}
 use Rattle.pgn_queries.specs.Examples.{listen_line}
+use Rattle.pgn_service.specs.Examples.{listens}
 
 -- the scenario of the query `LISTEN c`
 abbrev pub client : Scenario
@@ -17,10 +15,6 @@ client = wire_scenario (listen_line ∷ [])
 -- a journal of one notification
 abbrev pub one_sent : List Tx
 one_sent = record { session = 1; db = 1; notes = record { channel = codes "c"; payload = codes "x" } ∷ []; queued = 1; fate = Committed } ∷ []
-
--- the session listens
-abbrev pub listens : List Item
-listens = Line 1 ∷ Enlist 3 3 ∷ Reply tag.Listen None ∷ []
 
 -- it ended without listening on, or with its mark
 abbrev pub ended : Trace

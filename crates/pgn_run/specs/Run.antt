@@ -24,12 +24,12 @@ use Rattle.pgn_language.specs.declared.scenario.ScriptLine.{ScriptLine}
 use Rattle.pgn_messages.specs.Messages.{messages}
 use Rattle.pgn_wire.specs.Serving.{WroteWhole}
 use Rattle.pgn_run.specs.Checking.{IsJudged, Tells, verdict_text}
-use Rattle.pgn_run.specs.Conversation.{BreaksOff, Converses, StopsAmong, StopsBetween}
+use Rattle.pgn_service.specs.Conversation.{BreaksOff, Converses, StopsAmong, StopsBetween}
 use Rattle.pgn_frames.specs.declared.frame_fault.FrameFault.{FrameFault}
 use Rattle.pgn_frames.specs.Frames.{Frame, FramesAre}
-use Rattle.pgn_run.specs.Service.{ServesAll, ServesFirst, ServesInPart, StopsServing}
+use Rattle.pgn_service.specs.Service.{ServesAll, ServesFirst, ServesInPart, StopsServing}
 use Rattle.pgn_run.specs.Live.{EarlyOver, LiveOver, SoFarOver}
-use Rattle.pgn_run.specs.declared.means.RunSettings.{RunSettings}
+use Rattle.pgn_run.specs.declared.settings.RunSettings.{RunSettings}
 use Rattle.pgn_run.specs.declared.print.Shows.{Shows}
 use Rattle.pgn_run.specs.declared.print.Shows.TheVariants.{AtEnd, Live}
 use Rattle.pgn_run.specs.declared.print.Print.{Print}

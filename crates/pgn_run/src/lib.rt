@@ -17,29 +17,21 @@
 //! ```
 #![tactic(auto)]
 
-mod arms;
 mod checking;
-mod client;
-mod closing;
-mod conversing;
 pub mod examples;
 mod live_run;
-mod means;
 mod parting;
 mod print;
 mod run;
 mod scenario_run;
-mod seating;
 mod serve;
-mod service;
+mod settings;
 mod status;
 mod wire;
 
-pub use conversing::converse;
 pub use live_run::run_scenario_live;
-pub use means::{Means, RunSettings};
 pub use print::Print;
 pub use run::run_notify;
 pub use scenario_run::run_scenario;
-pub use service::{ServiceEnd, run_service};
+pub use settings::RunSettings;
 pub use status::Status;

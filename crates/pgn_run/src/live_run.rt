@@ -11,13 +11,14 @@ ghost use Rattle.pgn_session.specs.Runs.{IsOver};
 ghost use Rattle.pgn_run.specs.Live.{EarlyOver, EndsOver, LiveOver, SoFarOver, counts_of, end_text, lasts};
 ghost use Rattle.pgn_run.specs.Run.{HasWritten, settings_of};
 
-use crate::{Means, RunSettings, Status};
+use crate::{RunSettings, Status};
 use pgn_base::{Failed, Sink};
 use pgn_hub::{Hub, PassView};
 use pgn_journal::Tx;
 use pgn_language::{Scenario, Section};
 use pgn_live::{LiveFault, run_live, write_items};
 use pgn_model::{Item, Trace};
+use pgn_service::Means;
 use pgn_session::Session;
 use pgn_text::Out;
 use pgn_threads::{Run, finish_run, open_on_hub};

@@ -6,11 +6,12 @@ ghost use Rattle.pgn_language.specs.Inputs.{IsSound};
 ghost use Rattle.pgn_model.specs.Text.{brief, text};
 ghost use Rattle.pgn_run.specs.Run.{RunsOver, HasWritten, printed, settings_of};
 
-use crate::{Means, Print, RunSettings, Status};
+use crate::{Print, RunSettings, Status};
 use pgn_base::{Failed, Sink};
 use pgn_drill::{received, summary};
 use pgn_hub::{Hub, PassView};
 use pgn_language::Scenario;
+use pgn_service::Means;
 use pgn_text::render;
 use pgn_threads::{Run, run_on_hub};
 use std::mem;

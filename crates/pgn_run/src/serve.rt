@@ -4,10 +4,10 @@ ghost use Rattle.pgn_base.specs.declared.limits.TheConstants.{SECTIONS_MAX};
 ghost use Rattle.pgn_run.specs.Ending.{serve_status};
 ghost use Rattle.pgn_run.specs.Run.{AnswersServe, IsOfServe};
 
-use crate::service::{ServiceEnd, run_service};
-use crate::{Means, Status};
+use crate::Status;
 use pgn_base::{Sink, Source};
 use pgn_hub::Hub;
+use pgn_service::{Means, ServiceEnd, run_service};
 use pgn_wordhub::WordHub;
 use std::sync::Wait;
 use std::thread::Threads;

@@ -3,10 +3,10 @@ ghost use Rattle.pgn_base.specs.Outside.{Rose};
 ghost use Rattle.pgn_run.specs.Ending.{wire_status};
 ghost use Rattle.pgn_run.specs.Run.{AnswersWire, IsOfWire};
 
-use crate::conversing::converse;
-use crate::{Means, Status};
+use crate::Status;
 use pgn_base::{Sink, Source};
 use pgn_hub::Hub;
+use pgn_service::{Means, converse};
 use pgn_wire::WireEnd;
 use pgn_wordhub::WordHub;
 use std::sync::Wait;

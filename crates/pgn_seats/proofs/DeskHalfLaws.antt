@@ -11,8 +11,8 @@ use Rattle.pgn_outlet.specs.declared.outlet.Outlet.{Outlet}
 use Rattle.pgn_outlet.specs.Cames.{what_of}
 use Rattle.pgn_outlet.specs.Rule.{joined, lower, upper}
 use Rattle.pgn_outlet.proofs.CameLaws.{what_of-append}
-use Rattle.pgn_turns.specs.declared.asked.Ask.{Ask}
-use Rattle.pgn_turns.specs.declared.saying.Saying.{Saying}
+use Rattle.pgn_messages.specs.declared.asked.Ask.{Ask}
+use Rattle.pgn_messages.specs.declared.saying.Saying.{Saying}
 use Rattle.pgn_seats.specs.declared.desk.Desk.{Desk}
 use Rattle.pgn_seats.specs.Serving.{HasServed, HasToldFirst}
 use Rattle.pgn_seats.specs.Desks.{HaveServed, MayBegin, MayServe, sections_of}

@@ -11,9 +11,9 @@ use Rattle.pgn_outlet.specs.declared.hand.Hand.{Hand}
 use Rattle.pgn_outlet.specs.declared.outlet.Outlet.{Outlet}
 use Rattle.pgn_outlet.specs.Cames.{what_of}
 use Rattle.pgn_outlet.specs.Rule.{MayPush}
-use Rattle.pgn_turns.specs.declared.asked.Ask.{Ask}
-use Rattle.pgn_turns.specs.declared.saying.Saying.{Saying}
-use Rattle.pgn_turns.specs.Sayings.{all_told}
+use Rattle.pgn_messages.specs.declared.asked.Ask.{Ask}
+use Rattle.pgn_messages.specs.declared.saying.Saying.{Saying}
+use Rattle.pgn_messages.specs.Sayings.{all_told}
 use Rattle.pgn_seats.specs.declared.desk.Desk.{Desk}
 use Rattle.pgn_seats.specs.Serving.{HasPushedFor, HasServed, HasToldFirst, IsSeated, Serves}
 use Rattle.pgn_seats.specs.Desks.{AreSameClients, HaveServed, MayBegin, MayServe}

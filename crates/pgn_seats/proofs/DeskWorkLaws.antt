@@ -10,8 +10,8 @@ use Rattle.pgn_outlet.specs.declared.hand.Hand.{Hand}
 use Rattle.pgn_outlet.specs.declared.outlet.Outlet.{Outlet}
 use Rattle.pgn_outlet.specs.Passes.{IsPassOf, knows}
 use Rattle.pgn_outlet.specs.Rule.{joined, lower}
-use Rattle.pgn_turns.specs.declared.asked.Ask.{Ask}
-use Rattle.pgn_turns.specs.declared.saying.Saying.{Saying}
+use Rattle.pgn_messages.specs.declared.asked.Ask.{Ask}
+use Rattle.pgn_messages.specs.declared.saying.Saying.{Saying}
 use Rattle.pgn_workers.specs.declared.turn.Turn.{Turn}
 use Rattle.pgn_workers.specs.Parts.{Part, part, HasTakenRounds, StandsFor}
 use Rattle.pgn_seats.specs.declared.desk.Desk.{Desk}

@@ -27,18 +27,18 @@ use Rattle.pgn_session.specs.Parts.{Begins}
 use Rattle.pgn_session.specs.Whole.{HasRest}
 use Rattle.pgn_session.proofs.FeedLaws.{fed-split}
 use Rattle.pgn_session.proofs.OpenLaws.{rested-block}
-use Rattle.pgn_turns.specs.declared.asked.Ask.{Ask}
-use Rattle.pgn_turns.specs.declared.asked.Ask.TheVariants.{Discard, End, Query, Settle}
-use Rattle.pgn_turns.specs.declared.asked.Asked.{Asked}
-use Rattle.pgn_turns.specs.declared.asked.Parting.{Parting}
-use Rattle.pgn_turns.specs.declared.saying.Saying.{Saying}
-use Rattle.pgn_turns.specs.Asks.{discard_line, line_of, lines_for, rollback_line, seat_quit, unlisten_line}
-use Rattle.pgn_turns.specs.Laws.{HasTurnMore}
-use Rattle.pgn_turns.specs.Sayings.{all_told}
-use Rattle.pgn_turns.specs.Served.{discard_answer, discarded, settled_answer, told_answer}
-use Rattle.pgn_turns.specs.Turns.{Telling, Turn, Answers, Discards, Hears, IsPlain, IsRead, Leaves, Settles, after_line, asked_in, farewell, heard, items_in, items_of, kept_in, lines_of, said, signs_in, telling_of}
-use Rattle.pgn_turns.proofs.GrowLaws.{telling_walks, turns_grow}
-use Rattle.pgn_turns.proofs.WalkLaws.{turns_walk}
+use Rattle.pgn_messages.specs.declared.asked.Ask.{Ask}
+use Rattle.pgn_messages.specs.declared.asked.Ask.TheVariants.{Discard, End, Query, Settle}
+use Rattle.pgn_messages.specs.declared.asked.Asked.{Asked}
+use Rattle.pgn_messages.specs.declared.asked.Parting.{Parting}
+use Rattle.pgn_messages.specs.declared.saying.Saying.{Saying}
+use Rattle.pgn_messages.specs.Asks.{discard_line, line_of, lines_for, rollback_line, seat_quit, unlisten_line}
+use Rattle.pgn_messages.specs.TurnLaws.{HasTurnMore}
+use Rattle.pgn_messages.specs.Sayings.{all_told}
+use Rattle.pgn_messages.specs.Served.{discard_answer, discarded, settled_answer, told_answer}
+use Rattle.pgn_messages.specs.Turns.{Telling, Turn, Answers, Discards, Hears, IsPlain, IsRead, Leaves, Settles, after_line, asked_in, farewell, heard, items_in, items_of, kept_in, lines_of, said, signs_in, telling_of}
+use Rattle.pgn_messages.proofs.TurnGrowLaws.{telling_walks, turns_grow}
+use Rattle.pgn_messages.proofs.WalkLaws.{turns_walk}
 use Rattle.pgn_seats.specs.Working.{HasDone, HasDoneFirst, HasRun, HasRunBoth, HasSaid, IsAtWork, StaysDone}
 use Rattle.pgn_seats.proofs.WorkLaws.{reads-are}
 

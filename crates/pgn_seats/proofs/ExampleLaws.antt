@@ -12,12 +12,12 @@ use Rattle.pgn_requests.specs.declared.settings.Entry.{Entry}
 use Rattle.pgn_requests.specs.declared.settled.Settled.{Settled}
 use Rattle.pgn_requests.specs.declared.settled.Settled.TheVariants.{One}
 use Rattle.pgn_requests.specs.Settings.{Kept, fresh, kept_after, number_of, with_value}
-use Rattle.pgn_turns.specs.declared.asked.Ask.{Ask}
-use Rattle.pgn_turns.specs.declared.asked.Ask.TheVariants.{Discard, End, Query, Settle}
-use Rattle.pgn_turns.specs.declared.asked.Parting.{Parting}
-use Rattle.pgn_turns.specs.Asks.{lines_for, seat_quit}
-use Rattle.pgn_turns.specs.Served.{settled_answer}
-use Rattle.pgn_turns.specs.Turns.{Telling, Turn, Answers, Discards, Hears, IsPlain, IsRead, Leaves, Settles, asks_of, lines_of, signs_in, signs_said, telling_after}
+use Rattle.pgn_messages.specs.declared.asked.Ask.{Ask}
+use Rattle.pgn_messages.specs.declared.asked.Ask.TheVariants.{Discard, End, Query, Settle}
+use Rattle.pgn_messages.specs.declared.asked.Parting.{Parting}
+use Rattle.pgn_messages.specs.Asks.{lines_for, seat_quit}
+use Rattle.pgn_messages.specs.Served.{settled_answer}
+use Rattle.pgn_messages.specs.Turns.{Telling, Turn, Answers, Discards, Hears, IsPlain, IsRead, Leaves, Settles, asks_of, lines_of, signs_in, signs_said, telling_after}
 use Rattle.pgn_seats.specs.Examples.{names}
 
 -- the lines of turns that were asked for by these

@@ -5,7 +5,7 @@ use Rattle.pgn_outlet.specs.declared.came.Came.{Came}
 use Rattle.pgn_outlet.specs.declared.hand.Hand.{Hand}
 use Rattle.pgn_outlet.specs.Rule.{MayPush, with_sent}
 use Rattle.pgn_outlet.proofs.CameLaws.{pushed_other}
-use Rattle.pgn_turns.specs.declared.saying.Saying.{Saying}
+use Rattle.pgn_messages.specs.declared.saying.Saying.{Saying}
 use Rattle.pgn_seats.specs.Serving.{HasPushedFor}
 use Rattle.pgn_seats.specs.Working.{HasSaid}
 

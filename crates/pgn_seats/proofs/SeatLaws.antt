@@ -22,11 +22,11 @@ use Rattle.pgn_session.specs.Runs.{IsLawful}
 use Rattle.pgn_session.specs.Whole.{HasRest, IsSameScript}
 use Rattle.pgn_session.proofs.LawfulLaws.{rest-lawful}
 use Rattle.pgn_session.proofs.OpenLaws.{begins-open, quit-same}
-use Rattle.pgn_turns.specs.declared.asked.Ask.{Ask}
-use Rattle.pgn_turns.specs.declared.saying.Saying.{Saying}
-use Rattle.pgn_turns.specs.Asks.{seat_quit}
-use Rattle.pgn_turns.specs.Sayings.{all_told}
-use Rattle.pgn_turns.specs.Turns.{IsPlain, asks_of, said}
+use Rattle.pgn_messages.specs.declared.asked.Ask.{Ask}
+use Rattle.pgn_messages.specs.declared.saying.Saying.{Saying}
+use Rattle.pgn_messages.specs.Asks.{seat_quit}
+use Rattle.pgn_messages.specs.Sayings.{all_told}
+use Rattle.pgn_messages.specs.Turns.{IsPlain, asks_of, said}
 use Rattle.pgn_workers.specs.declared.turn.Turn.{Turn}
 use Rattle.pgn_workers.specs.declared.turn.Turn.TheVariants.{Did, Ended}
 use Rattle.pgn_seats.specs.declared.desk.Desk.{Desk}

@@ -34,9 +34,9 @@ use Rattle.pgn_session.proofs.LawfulLaws.{rest-lawful}
 use Rattle.pgn_session.proofs.LineTakenLaws.{Moves, idle-shows, line-moved, read-all, reads-no_line}
 use Rattle.pgn_session.proofs.OpenLaws.{before-comes, before-open, fed-before, fed-runs_served, notes-fed, read-before}
 use Rattle.pgn_session.proofs.OpenQuitLaws.{quit-taken}
-use Rattle.pgn_turns.specs.declared.asked.Asked.{Asked}
-use Rattle.pgn_turns.specs.Asks.{line_of, seat_quit}
-use Rattle.pgn_turns.specs.Turns.{Turn, IsRead, lines_of}
+use Rattle.pgn_messages.specs.declared.asked.Asked.{Asked}
+use Rattle.pgn_messages.specs.Asks.{line_of, seat_quit}
+use Rattle.pgn_messages.specs.Turns.{Turn, IsRead, lines_of}
 use Rattle.pgn_seats.specs.Serving.{HasQuitBehind, IsInTurns}
 use Rattle.pgn_seats.specs.declared.desk.Desk.{Desk}
 use Rattle.pgn_seats.specs.Working.{HasQuit, HasRun, IsAtLine, IsAtWork, MayTake}

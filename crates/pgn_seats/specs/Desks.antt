@@ -12,10 +12,10 @@ use Rattle.pgn_outlet.specs.declared.hand.Hand.{Hand}
 use Rattle.pgn_outlet.specs.declared.outlet.Outlet.{Outlet}
 use Rattle.pgn_outlet.specs.Cames.{what_of}
 use Rattle.pgn_outlet.specs.Passes.{knows}
-use Rattle.pgn_turns.specs.declared.asked.Ask.{Ask}
-use Rattle.pgn_turns.specs.declared.saying.Saying.{Saying}
+use Rattle.pgn_messages.specs.declared.asked.Ask.{Ask}
+use Rattle.pgn_messages.specs.declared.saying.Saying.{Saying}
 use Rattle.pgn_requests.specs.Settings.{fresh}
-use Rattle.pgn_turns.specs.Asks.{seat_quit}
+use Rattle.pgn_messages.specs.Asks.{seat_quit}
 use Rattle.pgn_seats.specs.declared.desk.Desk.{Desk}
 use Rattle.pgn_seats.specs.Serving.{HasInbox, HasServed, HasToldFirst}
 

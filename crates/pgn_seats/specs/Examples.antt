@@ -11,9 +11,9 @@ use Rattle.pgn_requests.specs.declared.setting.Setting.TheVariants.{ApplicationN
 use Rattle.pgn_requests.specs.declared.settled.Settled.{Settled}
 use Rattle.pgn_requests.specs.declared.settled.Settled.TheVariants.{Sets}
 use Rattle.pgn_requests.specs.Settings.{Kept}
-use Rattle.pgn_turns.specs.declared.saying.Saying.{Saying}
-use Rattle.pgn_turns.specs.Examples.{begin, listen, sent_by}
-use Rattle.pgn_turns.specs.Turns.{Turn, Answers, Discards, Hears}
+use Rattle.pgn_messages.specs.declared.saying.Saying.{Saying}
+use Rattle.pgn_messages.specs.TurnExamples.{begin, listen, sent_by}
+use Rattle.pgn_messages.specs.Turns.{Turn, Answers, Discards, Hears}
 
 abbrev pub listened : Turn
 listened = Answers listen (Enlist 3 3 ∷ Reply tag.Listen None ∷ [])

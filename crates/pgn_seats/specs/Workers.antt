@@ -13,8 +13,8 @@ use Rattle.pgn_outlet.specs.declared.outlet.Outlet.{Outlet}
 use Rattle.pgn_outlet.specs.Cames.{what_of}
 use Rattle.pgn_outlet.specs.Passes.{IsPassOf, knows}
 use Rattle.pgn_outlet.specs.Rule.{MayPush, joined, lower, upper}
-use Rattle.pgn_turns.specs.declared.asked.Ask.{Ask}
-use Rattle.pgn_turns.specs.declared.saying.Saying.{Saying}
+use Rattle.pgn_messages.specs.declared.asked.Ask.{Ask}
+use Rattle.pgn_messages.specs.declared.saying.Saying.{Saying}
 use Rattle.pgn_workers.specs.declared.turn.Turn.{Turn}
 use Rattle.pgn_workers.specs.declared.turn.Turn.TheVariants.{Ended}
 use Rattle.pgn_workers.specs.Parts.{Part}

@@ -20,11 +20,11 @@ use Rattle.pgn_session.specs.Whole.{HasRest, IsSameScript}
 use Rattle.pgn_outlet.specs.declared.hand.Hand.{Hand}
 use Rattle.pgn_outlet.specs.Cames.{what_of}
 use Rattle.pgn_outlet.specs.Rule.{MayPush}
-use Rattle.pgn_turns.specs.declared.asked.Ask.{Ask}
-use Rattle.pgn_turns.specs.declared.saying.Saying.{Saying}
-use Rattle.pgn_turns.specs.Asks.{seat_quit}
-use Rattle.pgn_turns.specs.Sayings.{all_told}
-use Rattle.pgn_turns.specs.Turns.{Turn, IsPlain, asks_of, items_of, lines_of, said, telling_of}
+use Rattle.pgn_messages.specs.declared.asked.Ask.{Ask}
+use Rattle.pgn_messages.specs.declared.saying.Saying.{Saying}
+use Rattle.pgn_messages.specs.Asks.{seat_quit}
+use Rattle.pgn_messages.specs.Sayings.{all_told}
+use Rattle.pgn_messages.specs.Turns.{Turn, IsPlain, asks_of, items_of, lines_of, said, telling_of}
 use Rattle.pgn_requests.specs.Settings.{Kept}
 use Rattle.pgn_seats.specs.declared.desk.Desk.{Desk}
 use Rattle.pgn_seats.specs.Serving.{HasPushedFor, HasQuitBehind, IsInTurns}

@@ -8,17 +8,17 @@ ghost use Rattle.pgn_session.specs.FirstRead.{HasReadTold, IsToReadFirst};
 ghost use Rattle.pgn_session.specs.Open.{IsOpen};
 ghost use Rattle.pgn_session.specs.Runs.{IsLawful};
 ghost use Rattle.pgn_session.specs.Whole.{IsSameScript};
-ghost use Rattle.pgn_turns.specs.declared.asked.Ask.TheVariants.{Query};
-ghost use Rattle.pgn_turns.specs.Asks.{line_of};
+ghost use Rattle.pgn_messages.specs.declared.asked.Ask.TheVariants.{Query};
+ghost use Rattle.pgn_messages.specs.Asks.{line_of};
 
 use crate::hearing::hear_before;
 use crate::lines::{put_line, run_line};
 use crate::telling::say_answer;
 use crate::{Desk, Service};
 use pgn_hub::{Hub, PassView};
+use pgn_messages::{Asked, Saying};
 use pgn_outlet::OutletPass;
 use pgn_session::Session;
-use pgn_turns::{Asked, Saying};
 use std::alloc::{AllocError, Global};
 use std::sync::Wait;
 

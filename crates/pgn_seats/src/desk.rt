@@ -1,7 +1,7 @@
+use pgn_messages::Ask;
 use pgn_outlet::{Outlet, OutletPass};
 use pgn_requests::Settings;
 use pgn_session::Session;
-use pgn_turns::Ask;
 
 /// What a seat is asked, in order; `None` stands behind all of it, where nothing more will be asked.
 pub type Inbox = Outlet<Option<Ask>>;

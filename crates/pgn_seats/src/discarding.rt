@@ -1,13 +1,13 @@
 ghost use Rattle.pgn_outlet.specs.Passes.{IsPassOf, knows};
 ghost use Rattle.pgn_seats.specs.Working.{HasTried, MayDo};
-ghost use Rattle.pgn_turns.specs.declared.asked.Ask.TheVariants.{Discard};
+ghost use Rattle.pgn_messages.specs.declared.asked.Ask.TheVariants.{Discard};
 
 use crate::lines::take_both;
 use crate::telling::{discard_bytes, say};
 use crate::{Desk, Service};
 use pgn_hub::{Hub, PassView};
+use pgn_messages::{Saying, discard_at};
 use pgn_outlet::OutletPass;
-use pgn_turns::{Saying, discard_at};
 use std::alloc::AllocError;
 use std::sync::Wait;
 

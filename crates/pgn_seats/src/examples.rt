@@ -15,14 +15,14 @@ ghost use Rattle.pgn_seats.specs.Serving.{HasInbox, HasPushedFor, HasQuitBehind,
 ghost use Rattle.pgn_session.specs.declared.doing.Doing.TheVariants.{Lines, Over};
 ghost use Rattle.pgn_session.specs.declared.session.Session.{Session};
 ghost use Rattle.pgn_session.specs.Runs.{IsLawful};
-ghost use Rattle.pgn_turns.specs.declared.asked.Ask.{Ask};
-ghost use Rattle.pgn_turns.specs.declared.asked.Ask.TheVariants.{Discard, End, Query, Settle};
-ghost use Rattle.pgn_turns.specs.declared.asked.Parting.TheVariants.{Plain};
-ghost use Rattle.pgn_turns.specs.declared.saying.Saying.{Saying};
-ghost use Rattle.pgn_turns.specs.Asks.{discard_line, line_of, seat_quit, unlisten_line};
-ghost use Rattle.pgn_turns.specs.Examples.{begin, idle_items, listen, notify};
-ghost use Rattle.pgn_turns.specs.Sayings.{all_told};
-ghost use Rattle.pgn_turns.specs.Turns.{Turn, Settles, asks_of};
+ghost use Rattle.pgn_messages.specs.declared.asked.Ask.{Ask};
+ghost use Rattle.pgn_messages.specs.declared.asked.Ask.TheVariants.{Discard, End, Query, Settle};
+ghost use Rattle.pgn_messages.specs.declared.asked.Parting.TheVariants.{Plain};
+ghost use Rattle.pgn_messages.specs.declared.saying.Saying.{Saying};
+ghost use Rattle.pgn_messages.specs.Asks.{discard_line, line_of, seat_quit, unlisten_line};
+ghost use Rattle.pgn_messages.specs.TurnExamples.{begin, idle_items, listen, notify};
+ghost use Rattle.pgn_messages.specs.Sayings.{all_told};
+ghost use Rattle.pgn_messages.specs.Turns.{Turn, Settles, asks_of};
 
 /// A session's script and trace in turns.
 pub fn in_turns()

@@ -2,14 +2,14 @@ ghost use Rattle.std.specs.Prelude.{◌≡◌, ◌+◌, ◌≤◌, true, cond};
 ghost use Rattle.pgn_language.specs.Inputs.{is_note_act, note_lines_of};
 ghost use Rattle.pgn_seats.specs.Working.{HasGone, HasPut, HasRunBoth, HasRunPut, HasTaken, MayStep, MayTake};
 ghost use Rattle.pgn_session.specs.Open.{IsOpen, RunsCommand};
-ghost use Rattle.pgn_turns.specs.Asks.{unlisten_line};
+ghost use Rattle.pgn_messages.specs.Asks.{unlisten_line};
 
 use crate::{Desk, Service};
 use pgn_base::Command;
 use pgn_hub::{Hub, PassView};
 use pgn_language::{Act, ScriptLine};
+use pgn_messages::unlisten_at;
 use pgn_session::Session;
-use pgn_turns::unlisten_at;
 use std::alloc::AllocError;
 use std::sync::Wait;
 

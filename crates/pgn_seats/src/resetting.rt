@@ -2,15 +2,15 @@ ghost use Rattle.std.specs.Prelude.{◌≡◌};
 ghost use Rattle.pgn_outlet.specs.Passes.{IsPassOf, knows};
 ghost use Rattle.pgn_requests.specs.Settings.{fresh};
 ghost use Rattle.pgn_seats.specs.Working.{HasTried, MayDo};
-ghost use Rattle.pgn_turns.specs.declared.asked.Ask.TheVariants.{End};
+ghost use Rattle.pgn_messages.specs.declared.asked.Ask.TheVariants.{End};
 
 use crate::lines::take_both;
 use crate::telling::say_end;
 use crate::{Desk, Service};
 use pgn_hub::{Hub, PassView};
+use pgn_messages::{Parting, Saying, rollback_at};
 use pgn_outlet::OutletPass;
 use pgn_requests::Settings;
-use pgn_turns::{Parting, Saying, rollback_at};
 use std::alloc::{AllocError, Global};
 use std::mem;
 use std::sync::Wait;

@@ -1,6 +1,6 @@
 use crate::Inbox;
+use pgn_messages::Saying;
 use pgn_outlet::{Bell, Outlet};
-use pgn_turns::Saying;
 use std::alloc::Global;
 
 /// What all desks of a service have in common: what they run on, the hub, what they are asked by, what they tell by, and the bell of who

@@ -1,13 +1,13 @@
 ghost use Rattle.pgn_outlet.specs.Passes.{IsPassOf, knows};
 ghost use Rattle.pgn_seats.specs.Working.{HasTried, MayDo};
-ghost use Rattle.pgn_turns.specs.declared.asked.Ask.TheVariants.{Settle};
+ghost use Rattle.pgn_messages.specs.declared.asked.Ask.TheVariants.{Settle};
 
 use crate::telling::say;
 use crate::{Desk, Service};
 use pgn_hub::{Hub, PassView};
+use pgn_messages::{Saying, tell_settled};
 use pgn_outlet::OutletPass;
 use pgn_requests::Settled;
-use pgn_turns::{Saying, tell_settled};
 use std::alloc::AllocError;
 use std::sync::Wait;
 

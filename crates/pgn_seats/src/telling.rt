@@ -3,17 +3,17 @@ ghost use Rattle.pgn_outlet.specs.Passes.{IsPassOf, knows};
 ghost use Rattle.pgn_outlet.specs.Rule.{MayPush};
 ghost use Rattle.pgn_seats.specs.Serving.{HasPushedFor};
 ghost use Rattle.pgn_seats.specs.Working.{HasSaid};
-ghost use Rattle.pgn_turns.specs.Sayings.{signs_told};
-ghost use Rattle.pgn_turns.specs.Served.{discard_answer, discarded, told_answer};
-ghost use Rattle.pgn_turns.specs.Turns.{farewell, heard};
+ghost use Rattle.pgn_messages.specs.Sayings.{signs_told};
+ghost use Rattle.pgn_messages.specs.Served.{discard_answer, discarded, told_answer};
+ghost use Rattle.pgn_messages.specs.Turns.{farewell, heard};
 
 use crate::Service;
 use pgn_answers::BlockState;
 use pgn_base::SessionNo;
+use pgn_messages::{Asked, Parting, Saying, tell_answer, tell_discard, tell_parting, tell_reads};
 use pgn_outlet::{Came, OutletPass};
 use pgn_requests::Settings;
 use pgn_session::Session;
-use pgn_turns::{Asked, Parting, Saying, tell_answer, tell_discard, tell_parting, tell_reads};
 use std::alloc::{AllocError, Global};
 use std::sync::Wait;
 

@@ -1,7 +1,7 @@
 ghost use Rattle.std.specs.Prelude.{◌≡◌, false};
 
+use pgn_messages::Saying;
 use pgn_outlet::OutletPass;
-use pgn_turns::Saying;
 
 /// What desks tell by that share a thread: a pass for their numbers, and whether one of them was refused memory.
 #[derive(Drop)]

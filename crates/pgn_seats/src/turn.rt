@@ -6,7 +6,7 @@ ghost use Rattle.pgn_seats.specs.Serving.{HasPushedFor, HasServed, HasToldFirst,
 ghost use Rattle.pgn_seats.specs.Workers.{HasTurned};
 ghost use Rattle.pgn_seats.specs.Working.{HasTried, MayDo};
 ghost use Rattle.pgn_session.specs.Open.{IsSameClient};
-ghost use Rattle.pgn_turns.specs.declared.asked.Ask.{Ask};
+ghost use Rattle.pgn_messages.specs.declared.asked.Ask.{Ask};
 
 use crate::answering::answer;
 use crate::discarding::discard;
@@ -17,9 +17,9 @@ use crate::settling::settle;
 use crate::{Desk, Inbox, Service};
 use pgn_base::SessionNo;
 use pgn_hub::{Hub, PassView};
+use pgn_messages::{Ask, Saying};
 use pgn_outlet::{Came, OutletPass};
 use pgn_session::Doing;
-use pgn_turns::{Ask, Saying};
 use pgn_workers::Turn;
 use std::alloc::AllocError;
 use std::sync::Wait;

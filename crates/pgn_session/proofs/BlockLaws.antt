@@ -25,7 +25,7 @@ use Rattle.pgn_model.specs.Legal.{IsFullThere, finished_xids}
 use Rattle.pgn_model.specs.Trace.{IsReadUp, reads_first, next_reads_first}
 use Rattle.pgn_model.specs.laws.NextLine.{StandsFresh, ComesNext, outcome_in}
 use Rattle.pgn_model.proofs.NextLineLaws.{line-replies, line-refuses, line-is_silent, line-gives_channels, finished-more}
-use Rattle.pgn_pending.specs.Kept.{StandsFor}
+use Rattle.pgn_block.specs.Kept.{StandsFor}
 use Rattle.pgn_block.specs.Views.{BlockView}
 use Rattle.pgn_block.specs.Effects.{effect_of}
 use Rattle.pgn_block.specs.declared.effect.Effect.{Effect}

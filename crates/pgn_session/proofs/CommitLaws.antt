@@ -16,7 +16,7 @@ use Rattle.pgn_answers.specs.Savepoints.{Change, changes_of, live_names, count_n
 use Rattle.pgn_language.specs.Inputs.{QuitsLast, note_lines_of, is_note_act}
 use Rattle.pgn_answers.specs.Answers.{Outcome, Commits, Replies, Refuses, Silent, GivesChannels, GivesUsage, answer, next_state, list_after}
 use Rattle.pgn_model.specs.Walk.{Terms, State}
-use Rattle.pgn_pending.specs.Kept.{StandsFor, Kept}
+use Rattle.pgn_block.specs.Kept.{StandsFor, Kept}
 use Rattle.pgn_block.specs.Views.{BlockView, viewed}
 use Rattle.pgn_block.specs.Effects.{effect_of}
 use Rattle.pgn_block.specs.declared.effect.Effect.TheVariants as effect

@@ -20,7 +20,7 @@ use Rattle.pgn_model.proofs.NextLineLaws.{last-is_published, holds-grows}
 use Rattle.pgn_hub.specs.Calls.{HasPublished, HasMetFull, tx_of}
 use Rattle.pgn_language.specs.Inputs.{QuitsLast, note_lines_of}
 use Rattle.pgn_model.specs.Legal.{IsFullThere, finished_xids}
-use Rattle.pgn_pending.specs.Kept.{StandsFor}
+use Rattle.pgn_block.specs.Kept.{StandsFor}
 use Rattle.pgn_block.specs.Views.{BlockView}
 use Rattle.pgn_session.specs.declared.doing.FlagPlan.{FlagPlan}
 use Rattle.pgn_session.specs.declared.doing.Doing.TheVariants.{Lines}

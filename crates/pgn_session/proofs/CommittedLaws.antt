@@ -16,7 +16,7 @@ use Rattle.pgn_model.specs.Walk.{Terms, State}
 use Rattle.pgn_model.specs.laws.NextLine.{is_enlisting, is_leaving, MayEnlist, MayPublish, enlist_items, publish_items, leave_items, published_xids, published_told, enlisted_mark, enlisted_marks, enlisted_told, left_mark, HoldsSoFar, StandsFresh, CommitsNext, committed}
 use Rattle.pgn_model.specs.Legal.{IsFullThere, finished_xids}
 use Rattle.pgn_model.proofs.NextLineLaws.{holds-grows, holds-within, line-commits, commits_next-grows, commit-finishes, commit-keeps_full}
-use Rattle.pgn_pending.specs.Kept.{StandsFor}
+use Rattle.pgn_block.specs.Kept.{StandsFor}
 use Rattle.pgn_block.specs.Views.{BlockView}
 use Rattle.pgn_session.specs.declared.doing.FlagPlan.{FlagPlan}
 use Rattle.pgn_session.specs.declared.doing.Doing.TheVariants.{Lines}

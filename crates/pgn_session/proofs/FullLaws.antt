@@ -24,7 +24,7 @@ use Rattle.pgn_hub.proofs.FloorLaws.{own-floors}
 use Rattle.pgn_hub.proofs.CallLaws.{holders-are_named}
 use Rattle.pgn_model.specs.Legal.{IsFullThere, finished_xids}
 use Rattle.pgn_model.proofs.NextLineLaws.{holds-grows, holds-within, commits_next-grows, line-meets_full, last-met_full, full-finishes, full-keeps_full}
-use Rattle.pgn_pending.specs.Kept.{StandsFor}
+use Rattle.pgn_block.specs.Kept.{StandsFor}
 use Rattle.pgn_block.specs.Views.{BlockView}
 use Rattle.pgn_session.specs.declared.doing.FlagPlan.{FlagPlan}
 use Rattle.pgn_session.specs.declared.doing.Doing.TheVariants.{Lines, Committing}

@@ -31,7 +31,7 @@ use Rattle.pgn_model.proofs.NextLineLaws.{line-gives_usage, comes_next-grows, ho
 use Rattle.pgn_hub.specs.Calls.{HasMeasured}
 use Rattle.pgn_hub.proofs.FloorLaws.{own-floors}
 use Rattle.pgn_hub.proofs.CallLaws.{holders-are_named}
-use Rattle.pgn_pending.specs.Kept.{StandsFor}
+use Rattle.pgn_block.specs.Kept.{StandsFor}
 use Rattle.pgn_block.specs.Views.{BlockView}
 use Rattle.pgn_block.specs.Effects.{effect_of}
 use Rattle.pgn_block.specs.declared.effect.Kind.TheVariants.{ListeningChannels, QueueUsage}

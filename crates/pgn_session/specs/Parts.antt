@@ -11,7 +11,7 @@ use Rattle.pgn_base.specs.declared.format.Format.{Format}
 use Rattle.pgn_base.specs.declared.command.Command.{Command}
 use Rattle.pgn_answers.specs.Savepoints.{Change, changes_of, live_names}
 use Rattle.pgn_answers.specs.Answers.{answer, next_state, list_after}
-use Rattle.pgn_pending.specs.Kept.{StandsFor}
+use Rattle.pgn_block.specs.Kept.{StandsFor}
 use Rattle.pgn_block.specs.Views.{BlockView}
 use Rattle.pgn_block.specs.Effects.{effect_of}
 use Rattle.pgn_block.specs.declared.effect.Kind.TheVariants.{ListeningChannels, QueueUsage}

@@ -19,7 +19,7 @@ use Rattle.pgn_model.specs.Walk as walk
 use Rattle.pgn_model.specs.Trace.{IsUpToDate}
 use Rattle.pgn_model.specs.Legal.{finished_xids}
 use Rattle.pgn_model.specs.laws.NextLine.{HoldsSoFar, CommitsNext}
-use Rattle.pgn_pending.specs.Kept.{StandsFor}
+use Rattle.pgn_block.specs.Kept.{StandsFor}
 use Rattle.pgn_block.specs.Views.{BlockView, idle_view}
 use Rattle.pgn_session.specs.declared.doing.FlagPlan.{FlagPlan}
 use Rattle.pgn_session.specs.declared.doing.Doing.{Doing}

@@ -6,7 +6,7 @@ use Rattle.pgn_language.specs.Tokens as model
 use Rattle.pgn_requests.specs.declared.setting.Setting.{Setting}
 use Rattle.pgn_requests.specs.Phrases.{going, is_one, unread, value_of, given_asks, valued_asks, past_mode, past_comma, is_end, are_modes}
 use Rattle.pgn_statements.specs.Steps.{IsPut}
-use Rattle.pgn_bodies.proofs.PlainLaws.{pick_no}
+use Rattle.pgn_statements.proofs.PlainLaws.{pick_no}
 
 -- the same told in other words
 pub IfOk-same : {A E : Type 0} (result : Result A E) (one other : A) → one ≡ other → IfOk result (λ r. r ≡ one) → IfOk result (λ r. r ≡ other)

@@ -18,7 +18,7 @@ use Rattle.pgn_language.specs.laws.Commands.{IsValid}
 use Rattle.pgn_language.proofs.CleanTokens.{NoNul, nul-from, nul-none, IsText, IsClean, AllClean, none-text, tokens-clean}
 use Rattle.pgn_requests.specs.Phrases.{going, after_two, after_sign, Argued, argued, bracketed, unbracketed, argument_of, first_of, second_of, called, is_one_sign, is_before_equals, begins_equals, spread, spread_at, few, is_key}
 use Rattle.pgn_statements.specs.Calls.{CallIsValid}
-use Rattle.pgn_bodies.proofs.PlainLaws.{nul-drop, pick_no}
+use Rattle.pgn_statements.proofs.PlainLaws.{nul-drop, pick_no}
 use Rattle.pgn_statements.proofs.AskLaws.{pick_yes}
 
 -- The tokens of a text are clean.

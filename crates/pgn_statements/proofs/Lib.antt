@@ -1,3 +1,5 @@
+pub mod PlainLaws
+pub mod Utf8Laws
 pub mod ShortLaws
 pub mod LexemeLaws
 pub mod StepLaws

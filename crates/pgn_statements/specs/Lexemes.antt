@@ -3,7 +3,7 @@ use denote.Ref.{Bor}
 use Rattle.std.specs.Prelude.{◌≡◌, ℕ, ◌+◌, ◌<◌, List, map, take, length, slice_index, Option, None, Some, MatchOption}
 use Rattle.pgn_language.specs.Tokens as model
 use Rattle.pgn_language.specs.Grammar.{lexemes_of}
-use Rattle.pgn_quotes.specs.Texts.{single}
+use Rattle.pgn_command.specs.Texts.{single}
 use Rattle.pgn_requests.specs.declared.limits.TheConstants.{TOKENS_MAX}
 use Rattle.pgn_requests.specs.Phrases.{spread, spread_at}
 use Rattle.pgn_command.specs.declared.token.Lexeme.{Lexeme}

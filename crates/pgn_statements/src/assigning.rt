@@ -12,8 +12,7 @@ use crate::lines::unread;
 use crate::settings_named::setting_named;
 use crate::values::put_values;
 use crate::words::{after_one, after_two, are_three, are_two, is_key, is_name, is_one};
-use pgn_command::Lexeme;
-use pgn_quotes::unquoted;
+use pgn_command::{Lexeme, unquoted};
 use pgn_requests::{Cause, Request, Setting, Settled, Verdict};
 use std::alloc::{AllocError, Global};
 

@@ -3,7 +3,7 @@
 //! `read_request` gives exactly the request that `pgn_requests` defines for a body (`RequestIs`), which is always there and only one. Only
 //! want of memory is refused.
 //!
-//! A body is read in three steps: `pgn_bodies` finds its text, and takes comments, line feeds and the end off it, and the grammar of
+//! A body is read in three steps: `body_of` finds its text, `bare` takes comments, line feeds and the end off it, and the grammar of
 //! `pgn_command` reads what is left. What the grammar refuses is read once more by its tokens (`asking`): the settings and the other words that
 //! drivers send.
 #![tactic(auto)]
@@ -11,6 +11,9 @@
 mod accepting;
 mod asking;
 mod assigning;
+mod bare;
+mod body;
+mod byte_modes;
 mod calls;
 mod choices;
 mod complaining;
@@ -18,6 +21,7 @@ mod encodings;
 mod lexemes;
 mod lines;
 mod settings_named;
+mod single_line;
 mod statement_reading;
 mod transaction_modes;
 mod values;

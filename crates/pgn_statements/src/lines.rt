@@ -13,9 +13,9 @@ ghost use Rattle.pgn_statements.specs.Calls.{note_of};
 ghost use Rattle.pgn_statements.specs.Steps.{Gives};
 
 use crate::calls::Call;
+use crate::single_line::one_line;
 use crate::words::is_key;
 use pgn_base::Command;
-use pgn_bodies::one_line;
 use pgn_command::{Lexeme, Lexer, pg_notify};
 use pgn_requests::{Request, Wording};
 use std::alloc::{AllocError, Global};

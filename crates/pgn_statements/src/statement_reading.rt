@@ -5,10 +5,11 @@ ghost use Rattle.pgn_requests.specs.Reading.{RequestIs, request_of};
 ghost use Rattle.pgn_statements.specs.Steps.{Gives, Asks};
 
 use crate::asking::asked_of;
+use crate::bare::{is_plain, plain, without_ends};
+use crate::body::{Body, body_of};
 use crate::complaining::refused_as;
 use crate::lines::{bad_at, read_line};
 use pgn_base::{Command, LINE_BYTES_MAX};
-use pgn_bodies::{Body, body_of, is_plain, plain, without_ends};
 use pgn_command::parse_line;
 use pgn_requests::{Cause, Request};
 use std::alloc::{AllocError, Global};

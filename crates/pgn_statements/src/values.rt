@@ -1,13 +1,12 @@
 ghost use Rattle.std.specs.Prelude.{◌≡◌, ◌++◌, IfOk, OnOk, string_bytes};
 ghost use Rattle.std.specs.Str.{str_to_ascii_lowercase};
-ghost use Rattle.pgn_quotes.specs.Texts.{single};
+ghost use Rattle.pgn_command.specs.Texts.{single};
 ghost use Rattle.pgn_requests.specs.Phrases as told;
 ghost use Rattle.pgn_statements.specs.Lexemes.{meant, all_meant};
 ghost use Rattle.pgn_statements.specs.Steps.{IsPut};
 
 use crate::words::is_sign;
-use pgn_command::Lexeme;
-use pgn_quotes::{Enclosed, unquoted};
+use pgn_command::{Enclosed, Lexeme, unquoted};
 use std::alloc::{AllocError, Global};
 
 /// Puts the value that tokens are behind a text: one token, or two with a comma between them.

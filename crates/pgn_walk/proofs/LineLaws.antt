@@ -24,7 +24,7 @@ use Rattle.pgn_language.specs.declared.scenario.Act.{Act}
 use Rattle.pgn_language.specs.declared.scenario.Act.TheVariants.{Run, Signal, Await, Quit}
 use Rattle.pgn_model.specs.Walk.{State, quitting, at_act, at_outcome}
 use Rattle.pgn_model.specs.Walk as walk
-use Rattle.pgn_pending.specs.Kept.{StandsFor}
+use Rattle.pgn_block.specs.Kept.{StandsFor}
 use Rattle.pgn_block.specs.Views.{BlockView, idle_view}
 use Rattle.pgn_block.specs.Effects.{effect_of}
 use Rattle.pgn_block.specs.declared.effect.Effect.{Effect}

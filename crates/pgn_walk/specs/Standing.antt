@@ -11,7 +11,7 @@ use Rattle.pgn_due.specs.Next.{IsWatch}
 use Rattle.pgn_language.specs.declared.scenario.Section.{Section}
 use Rattle.pgn_model.specs.Walk.{State, IsGreatest, IsUnknown, queueing_or_settled, settled}
 use Rattle.pgn_model.specs.Walk as walk
-use Rattle.pgn_pending.specs.Kept.{StandsFor}
+use Rattle.pgn_block.specs.Kept.{StandsFor}
 use Rattle.pgn_ledger.specs.declared.to_show.ToShow.{ToShow}
 use Rattle.pgn_ledger.specs.declared.to_show.ToShow.TheVariants as show
 use Rattle.pgn_ledger.specs.ToShow.{ending_of, owed_of}

@@ -1,6 +1,6 @@
 use Rattle.std.proofs.Common.{sym, ◌∙◌}
 use Rattle.pgn_command.proofs.CutLaws.{cut-at}
-use Rattle.pgn_quotes.proofs.QuoteLaws.{from_start}
+use Rattle.pgn_command.proofs.QuoteLaws.{from_start}
 use Rattle.pgn_command.proofs.texts.cut.Goals as goal
 
 pub returns : goal.returns

@@ -1,5 +1,5 @@
 use Rattle.std.proofs.Common.{ℕ, ◌*◌, length, sym, ap, ◌∙◌}
-use Rattle.pgn_quotes.specs.Texts.{single}
+use Rattle.pgn_command.specs.Texts.{single}
 use Rattle.pgn_command.specs.Statements.{text_bytes}
 use Rattle.pgn_command.specs.declared.statement.Text.{Text}
 use Rattle.pgn_command.proofs.CutLaws.{length-repeated}

@@ -1,8 +1,8 @@
 use Rattle.std.proofs.Common.{ℕ, List, ◌++◌, [], ◌∷◌, None, Some, refl, arith}
 use Rattle.std.specs.Prelude.{map}
 use Rattle.pgn_queries.specs.Examples.{asks_listen, asks_notify, terminates}
-use Rattle.pgn_turns.specs.declared.asked.Ask.TheVariants.{End, Query}
-use Rattle.pgn_turns.specs.declared.asked.Parting.TheVariants.{Spent}
+use Rattle.pgn_messages.specs.declared.asked.Ask.TheVariants.{End, Query}
+use Rattle.pgn_messages.specs.declared.asked.Parting.TheVariants.{Spent}
 use Rattle.pgn_frames.specs.Clients as clients
 use Rattle.pgn_frames.specs.Clients.{Open, Left, Cut, Wrong}
 use Rattle.pgn_frames.specs.Examples.{listen_at, notify_at}

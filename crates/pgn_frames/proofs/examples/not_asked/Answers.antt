@@ -3,9 +3,9 @@ use Rattle.std.specs.Prelude.{map}
 use Rattle.pgn_base.specs.declared.limits.TheConstants.{NOTE_LINES_MAX}
 use Rattle.pgn_queries.specs.Examples.{asks_listen, asks_two_ends, terminates}
 use Rattle.pgn_requests.specs.declared.settled.Settled.TheVariants.{One}
-use Rattle.pgn_turns.specs.declared.asked.Ask.{Ask}
-use Rattle.pgn_turns.specs.declared.asked.Ask.TheVariants.{Discard, End, Query, Settle}
-use Rattle.pgn_turns.specs.declared.asked.Parting.TheVariants.{Extended, Plain, Refused}
+use Rattle.pgn_messages.specs.declared.asked.Ask.{Ask}
+use Rattle.pgn_messages.specs.declared.asked.Ask.TheVariants.{Discard, End, Query, Settle}
+use Rattle.pgn_messages.specs.declared.asked.Parting.TheVariants.{Extended, Plain, Refused}
 use Rattle.pgn_frames.specs.Clients.{first_tally}
 use Rattle.pgn_frames.specs.Examples.{asks_one, garbled_at, listen_at, parses, too_short, two_asks, two_clients}
 use Rattle.pgn_frames.proofs.AskLaws.{one_asking}

@@ -1,6 +1,6 @@
 use Rattle.std.proofs.Common.{◌≡◌, rules, refl, None, ◌∷◌, [], false}
 use Rattle.pgn_outlet.specs.Passes.{knows}
-use Rattle.pgn_turns.specs.declared.asked.Parting.{Parting}
+use Rattle.pgn_messages.specs.declared.asked.Parting.{Parting}
 use Rattle.pgn_frames.specs.declared.caller.Caller.{Caller}
 use Rattle.pgn_frames.specs.Callers.{HasEnded, Takes, TakesFirst, parting_behind}
 use Rattle.pgn_frames.proofs.CallerLaws.{First-none, Takes-over, Takes-parted, on_err, on_ok}

@@ -1,6 +1,6 @@
 use Rattle.std.proofs.Common.{◌≡◌, ◌<◌, ℕ, List, length, drop, true, false, Bool, rules, arith, refl, ◌∙◌, subst}
 use Rattle.std.specs.Prelude.{slice_range}
-use Rattle.pgn_turns.specs.declared.asked.Parting.TheVariants.{Spent}
+use Rattle.pgn_messages.specs.declared.asked.Parting.TheVariants.{Spent}
 use Rattle.pgn_frames.specs.declared.caller.Caller.{Caller}
 use Rattle.pgn_frames.specs.Callers.{Answers, HasAsked, HasEnded, IsSpent, PartsBy, QueryTo, TakesBytes}
 use Rattle.pgn_frames.proofs.CallerLaws.{Bytes-left, Bytes-query, Bytes-spent, if_ok-at, if_ok-both}

@@ -1,6 +1,6 @@
 use Rattle.std.proofs.Common.{ℕ, length, sym, subst, arith}
 use Rattle.std.proofs.lemmas.Str.{IsCharBoundary-after_ascii}
-use Rattle.pgn_quotes.specs.Texts.{single, IsInside}
+use Rattle.pgn_command.specs.Texts.{single, IsInside}
 use Rattle.pgn_lines.specs.Fields.{IsEnclosed}
 use Rattle.pgn_lines.proofs.QuotedLaws.{not_enclosed, is_enclosed}
 use Rattle.pgn_lines.proofs.quoted.enclosed.Goals as goal

@@ -1,5 +1,5 @@
 use Rattle.pgn_text.proofs.PutsLaws.{Puts-trans, Writes-from_Puts}
-use Rattle.pgn_run.proofs.ArmLaws.{cause-from_Puts}
+use Rattle.pgn_service.proofs.ArmLaws.{cause-from_Puts}
 use Rattle.pgn_run.proofs.checking.illegal_line.Goals as goal
 
 pub returns-clause-bytes : goal.returns-clause-bytes

@@ -1,7 +1,7 @@
 use Rattle.pgn_model.specs.Text.{journal_lines}
 use Rattle.pgn_text.specs.Rendering.{ends_lines}
 use Rattle.pgn_text.proofs.PutsLaws.{Puts-lines, Puts-trans, Writes-from_Puts}
-use Rattle.pgn_run.proofs.ArmLaws.{cause-from_Puts}
+use Rattle.pgn_service.proofs.ArmLaws.{cause-from_Puts}
 use Rattle.pgn_run.proofs.live_run.put_end.Goals as goal
 
 pub returns-clause-bytes : goal.returns-clause-bytes

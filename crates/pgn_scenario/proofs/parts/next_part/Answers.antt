@@ -2,7 +2,7 @@ use Rattle.std.proofs.Common.{◌≡◌, ℕ, List, ◌∷◌, take, drop, sym, 
 use Rattle.std.specs.List.{prefix_len}
 use Rattle.pgn_language.specs.Lines.{is_gap, parts_of}
 use Rattle.pgn_language.specs.laws.Tokens.{NoneFollows}
-use Rattle.pgn_quotes.proofs.QuoteLaws.{from_start}
+use Rattle.pgn_command.proofs.QuoteLaws.{from_start}
 use Rattle.pgn_scenario.specs.Parting.{past_gap}
 use Rattle.pgn_scenario.proofs.PartLaws.{gap-boundary, is_part, part-boundary, parts-past, past-ends, parts-none, parts-next}
 use Rattle.pgn_scenario.proofs.parts.next_part.Goals as goal

@@ -3,7 +3,7 @@ use Rattle.std.specs.List.{prefix_len}
 use Rattle.pgn_language.specs.Tokens.{is_blank}
 use Rattle.pgn_language.specs.Lines.{trimmed_end, trimmed_start}
 use Rattle.pgn_command.proofs.GapLaws.{blanks-boundary}
-use Rattle.pgn_quotes.proofs.QuoteLaws.{from_start}
+use Rattle.pgn_command.proofs.QuoteLaws.{from_start}
 use Rattle.pgn_scenario.proofs.ByteLaws.{trimmed_to}
 use Rattle.pgn_scenario.proofs.texts.trimmed.Goals as goal
 

@@ -3,7 +3,7 @@ use Rattle.pgn_language.specs.declared.scenario.Section.{Section}
 use Rattle.pgn_language.specs.Inputs.{note_lines_of}
 use Rattle.pgn_outlet.specs.Passes.{knows}
 use Rattle.pgn_session.proofs.OpenLaws.{quit-same, same-client}
-use Rattle.pgn_turns.specs.Asks.{line_of}
+use Rattle.pgn_messages.specs.Asks.{line_of}
 use Rattle.pgn_seats.proofs.DoneLaws.{done-first, done-kept, put-done, same-stays}
 use Rattle.pgn_seats.proofs.ResultLaws.{err_then, ok_then, on_err}
 use Rattle.pgn_seats.proofs.SayLaws.{may-at, may-still, pushed-at, pushed-both, pushed-same}

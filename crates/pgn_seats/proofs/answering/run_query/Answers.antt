@@ -1,5 +1,5 @@
 use Rattle.std.proofs.Common.{◌≡◌, [], ◌∷◌, length, sym, refl, rules}
-use Rattle.pgn_turns.specs.Asks.{line_of}
+use Rattle.pgn_messages.specs.Asks.{line_of}
 use Rattle.pgn_outlet.specs.Passes.{knows}
 use Rattle.pgn_seats.proofs.DoneLaws.{done-first, first-untold, run-done}
 use Rattle.pgn_seats.proofs.ResultLaws.{err_then, ok_then, on_err, on_ok}

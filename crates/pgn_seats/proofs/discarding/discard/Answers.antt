@@ -4,9 +4,9 @@ use Rattle.pgn_base.specs.declared.command.Command.TheVariants.{Bad}
 use Rattle.pgn_language.specs.declared.scenario.ScriptLine.{ScriptLine}
 use Rattle.pgn_outlet.specs.Passes.{knows}
 use Rattle.pgn_requests.specs.Settings.{Kept}
-use Rattle.pgn_turns.specs.Asks.{discard_line, unlisten_line}
-use Rattle.pgn_turns.specs.Served.{discard_answer, discarded}
-use Rattle.pgn_turns.specs.Turns.{heard}
+use Rattle.pgn_messages.specs.Asks.{discard_line, unlisten_line}
+use Rattle.pgn_messages.specs.Served.{discard_answer, discarded}
+use Rattle.pgn_messages.specs.Turns.{heard}
 use Rattle.pgn_seats.specs.Working.{HasRunBoth}
 use Rattle.pgn_seats.proofs.DoneLaws.{discards-done, done-first, first-untold}
 use Rattle.pgn_seats.proofs.ResultLaws.{err_then, ok_then, on_err, on_ok}

@@ -4,10 +4,10 @@ use Rattle.pgn_language.specs.declared.scenario.ScriptLine.{ScriptLine}
 use Rattle.pgn_model.specs.declared.item.Item.{Item}
 use Rattle.pgn_model.specs.declared.item.Item.TheVariants.{Read}
 use Rattle.pgn_requests.specs.declared.settled.Settled.TheVariants.{One}
-use Rattle.pgn_turns.specs.declared.asked.Ask.TheVariants.{Discard, Query, Settle}
-use Rattle.pgn_turns.specs.Asks.{discard_line, line_of, seat_quit, unlisten_line}
-use Rattle.pgn_turns.specs.Examples.{idle_items, listen, notify, sent_by}
-use Rattle.pgn_turns.specs.Turns.{IsPlain, IsRead, Settles, items_of}
+use Rattle.pgn_messages.specs.declared.asked.Ask.TheVariants.{Discard, Query, Settle}
+use Rattle.pgn_messages.specs.Asks.{discard_line, line_of, seat_quit, unlisten_line}
+use Rattle.pgn_messages.specs.TurnExamples.{idle_items, listen, notify, sent_by}
+use Rattle.pgn_messages.specs.Turns.{IsPlain, IsRead, Settles, items_of}
 use Rattle.pgn_seats.specs.Examples.{begun, discarded, heard_one, listened}
 use Rattle.pgn_seats.proofs.ExampleLaws.{lines-asked}
 use Rattle.pgn_seats.proofs.examples.in_turns.Goals as goal

@@ -2,9 +2,9 @@ use Rattle.std.proofs.Common.{◌≡◌, List, [], ◌∷◌, ◌++◌, length, 
 use Rattle.std.proofs.lemmas.List.Elements.{All-nil, All-cons, All-head}
 use Rattle.pgn_model.specs.declared.item.Item.{Item}
 use Rattle.pgn_model.specs.declared.item.Item.TheVariants.{Leave, Line, Read}
-use Rattle.pgn_turns.specs.Asks.{seat_quit}
-use Rattle.pgn_turns.specs.Examples.{idle_items, sent_by}
-use Rattle.pgn_turns.specs.Turns.{IsPlain, IsRead, items_of}
+use Rattle.pgn_messages.specs.Asks.{seat_quit}
+use Rattle.pgn_messages.specs.TurnExamples.{idle_items, sent_by}
+use Rattle.pgn_messages.specs.Turns.{IsPlain, IsRead, items_of}
 use Rattle.pgn_seats.specs.Examples.{heard_one, listened}
 use Rattle.pgn_seats.proofs.examples.quits.Goals as goal
 

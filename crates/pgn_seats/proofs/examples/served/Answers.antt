@@ -4,12 +4,12 @@ use Rattle.std.proofs.lemmas.List.{same_from_push}
 use Rattle.pgn_language.specs.declared.scenario.ScriptLine.{ScriptLine}
 use Rattle.pgn_session.specs.declared.doing.Doing.TheVariants.{Lines, Over}
 use Rattle.pgn_requests.specs.declared.settled.Settled.TheVariants.{One}
-use Rattle.pgn_turns.specs.declared.asked.Ask.TheVariants.{End, Query, Settle}
-use Rattle.pgn_turns.specs.declared.asked.Parting.TheVariants.{Plain}
-use Rattle.pgn_turns.specs.Asks.{line_of, seat_quit}
-use Rattle.pgn_turns.specs.Examples.{listen}
-use Rattle.pgn_turns.specs.Sayings.{all_told}
-use Rattle.pgn_turns.specs.Turns.{asks_of, first_telling}
+use Rattle.pgn_messages.specs.declared.asked.Ask.TheVariants.{End, Query, Settle}
+use Rattle.pgn_messages.specs.declared.asked.Parting.TheVariants.{Plain}
+use Rattle.pgn_messages.specs.Asks.{line_of, seat_quit}
+use Rattle.pgn_messages.specs.TurnExamples.{listen}
+use Rattle.pgn_messages.specs.Sayings.{all_told}
+use Rattle.pgn_messages.specs.Turns.{asks_of, first_telling}
 use Rattle.pgn_seats.proofs.ExampleLaws.{end-said, lines-asked, one-ask, settled-said}
 use Rattle.pgn_seats.proofs.examples.served.Goals as goal
 

@@ -4,11 +4,11 @@ use Rattle.pgn_language.specs.declared.scenario.ScriptLine.{ScriptLine}
 use Rattle.pgn_language.specs.Inputs.{note_lines_of}
 use Rattle.pgn_session.specs.declared.doing.Doing.TheVariants.{Lines, Over}
 use Rattle.pgn_requests.specs.Settings.{Kept, fresh}
-use Rattle.pgn_turns.specs.declared.asked.Ask.TheVariants.{End, Settle}
-use Rattle.pgn_turns.specs.declared.asked.Parting.TheVariants.{Plain}
-use Rattle.pgn_turns.specs.Asks.{line_of, seat_quit}
-use Rattle.pgn_turns.specs.Examples.{listen, notify}
-use Rattle.pgn_turns.specs.Turns.{asks_of, first_telling}
+use Rattle.pgn_messages.specs.declared.asked.Ask.TheVariants.{End, Settle}
+use Rattle.pgn_messages.specs.declared.asked.Parting.TheVariants.{Plain}
+use Rattle.pgn_messages.specs.Asks.{line_of, seat_quit}
+use Rattle.pgn_messages.specs.TurnExamples.{listen, notify}
+use Rattle.pgn_messages.specs.Turns.{asks_of, first_telling}
 use Rattle.pgn_seats.specs.Examples.{named, names}
 use Rattle.pgn_seats.proofs.ExampleLaws.{left-fresh, lines-asked, named-some, no-ask, one-ask, two-asks, unset}
 use Rattle.pgn_seats.proofs.SeatLaws.{serves-begins}

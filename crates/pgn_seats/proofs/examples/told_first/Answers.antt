@@ -2,9 +2,9 @@ use Rattle.std.proofs.Common.{◌≡◌, [], sym, ◌∙◌, refl, ap}
 use Rattle.std.specs.Prelude.{flat_map}
 use Rattle.std.proofs.lemmas.List.Elements.{All-nil}
 use Rattle.pgn_outlet.specs.Passes.{knows}
-use Rattle.pgn_turns.specs.Sayings.{all_told}
-use Rattle.pgn_turns.specs.Turns.{IsPlain, asks_of, heard, items_of, said}
-use Rattle.pgn_turns.proofs.ToldLaws.{reads_are_heard}
+use Rattle.pgn_messages.specs.Sayings.{all_told}
+use Rattle.pgn_messages.specs.Turns.{IsPlain, asks_of, heard, items_of, said}
+use Rattle.pgn_messages.proofs.ToldLaws.{reads_are_heard}
 use Rattle.pgn_seats.specs.Serving.{taken}
 use Rattle.pgn_seats.proofs.ExampleLaws.{no-ask, no-end}
 use Rattle.pgn_seats.proofs.examples.told_first.Goals as goal

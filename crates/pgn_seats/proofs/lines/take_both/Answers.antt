@@ -2,7 +2,7 @@ use Rattle.std.proofs.Common.{◌≡◌, ◌+◌, ap, ◌∙◌, refl, rules, su
 use Rattle.pgn_base.specs.declared.command.Command.TheVariants.{UnlistenAll}
 use Rattle.pgn_language.specs.declared.scenario.ScriptLine.{ScriptLine}
 use Rattle.pgn_session.proofs.OpenLaws.{same-client}
-use Rattle.pgn_turns.specs.Asks.{unlisten_line}
+use Rattle.pgn_messages.specs.Asks.{unlisten_line}
 use Rattle.pgn_seats.specs.Working.{HasRunBoth}
 use Rattle.pgn_seats.proofs.DoneLaws.{both-ran, stays-both}
 use Rattle.pgn_seats.proofs.ResultLaws.{ok_then}

@@ -2,7 +2,7 @@ use Rattle.std.proofs.Common.{◌+◌, [], sym, refl, subst, rules}
 use Rattle.pgn_base.specs.declared.command.Command.TheVariants.{Rollback}
 use Rattle.pgn_language.specs.declared.scenario.ScriptLine.{ScriptLine}
 use Rattle.pgn_outlet.specs.Passes.{knows}
-use Rattle.pgn_turns.specs.Asks.{rollback_line, unlisten_line}
+use Rattle.pgn_messages.specs.Asks.{rollback_line, unlisten_line}
 use Rattle.pgn_seats.specs.Working.{HasRunBoth}
 use Rattle.pgn_seats.proofs.DoneLaws.{done-first, first-untold, leaves-done}
 use Rattle.pgn_seats.proofs.ResultLaws.{err_then, ok_then, on_err, on_ok}

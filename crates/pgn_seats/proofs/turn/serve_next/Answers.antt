@@ -1,7 +1,7 @@
 use Rattle.std.proofs.Common.{[], ◌∷◌, ◌++◌, Option, ap, ◌∙◌}
 use Rattle.pgn_outlet.specs.Passes.{knows}
 use Rattle.pgn_session.proofs.OpenLaws.{quit-unread}
-use Rattle.pgn_turns.specs.declared.asked.Ask.{Ask}
+use Rattle.pgn_messages.specs.declared.asked.Ask.{Ask}
 use Rattle.pgn_seats.specs.Serving.{taken}
 use Rattle.pgn_seats.proofs.SeatLaws.{turned-did, turned-idle, turned-not, turned-open, turned-over}
 use Rattle.pgn_seats.proofs.turn.serve_next.Goals as goal

@@ -3,7 +3,7 @@ use Rattle.std.specs.Prelude.{bytes_eq, codes}
 use Rattle.std.proofs.lemmas.Bool.{or_from}
 use Rattle.pgn_requests.specs.declared.verdict.Verdict.TheVariants.{Becomes, Invalid, Unsupported}
 use Rattle.pgn_requests.specs.Values.{encoding, is_encoding}
-use Rattle.pgn_bodies.proofs.PlainLaws.{pick_no}
+use Rattle.pgn_statements.proofs.PlainLaws.{pick_no}
 use Rattle.pgn_statements.proofs.AskLaws.{IfOk-same, pick_yes}
 use Rattle.pgn_statements.proofs.accepting.encoding_of.Goals as goal
 

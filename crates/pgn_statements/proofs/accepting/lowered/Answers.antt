@@ -3,7 +3,7 @@ use Rattle.std.specs.Prelude.{filter}
 use Rattle.std.specs.Char.{to_ascii_lowercase}
 use Rattle.std.specs.Str.{str_to_ascii_lowercase}
 use Rattle.std.proofs.lemmas.List.{append-nil, at_drop_all, at_drop_more}
-use Rattle.pgn_bodies.proofs.PlainLaws.{pick_no}
+use Rattle.pgn_statements.proofs.PlainLaws.{pick_no}
 use Rattle.pgn_statements.specs.Choices.{is_kept}
 use Rattle.pgn_statements.proofs.AskLaws.{pick_yes}
 use Rattle.pgn_statements.proofs.accepting.lowered.Goals.{then-is_kept+in_ok-push, else-is_kept}

@@ -2,7 +2,7 @@ use Rattle.std.proofs.Common.{◌≡◌, true, false, sym, ap, ◌∙◌}
 use Rattle.pgn_base.specs.declared.command.Command.TheVariants as command
 use Rattle.pgn_requests.specs.Phrases as told
 use Rattle.pgn_statements.specs.Lexemes.{all_meant}
-use Rattle.pgn_bodies.proofs.PlainLaws.{pick_no}
+use Rattle.pgn_statements.proofs.PlainLaws.{pick_no}
 use Rattle.pgn_statements.proofs.AskLaws.{IfOk-same, pick_yes}
 use Rattle.pgn_statements.proofs.asking.begin.Goals as goal
 

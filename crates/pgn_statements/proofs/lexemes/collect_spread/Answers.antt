@@ -3,7 +3,7 @@ use Rattle.std.specs.Prelude.{codes}
 use Rattle.std.proofs.lemmas.Str.{IsCharBoundary-after_ascii}
 use Rattle.pgn_language.specs.Tokens as model
 use Rattle.pgn_language.specs.Grammar.{lexemes_of}
-use Rattle.pgn_quotes.proofs.QuoteLaws.{from_start}
+use Rattle.pgn_command.proofs.QuoteLaws.{from_start}
 use Rattle.pgn_requests.specs.Phrases.{spread}
 use Rattle.pgn_statements.specs.Lexemes.{all_meant, some_of}
 use Rattle.pgn_statements.proofs.AskLaws.{OnOk-map}

@@ -1,9 +1,9 @@
 use Rattle.std.proofs.Common.{◌≡◌, ℕ, true, List, IfOk, sym, ap, ◌∙◌, subst}
 use Rattle.pgn_requests.specs.declared.mode.Mode.TheVariants.{Outside}
 use Rattle.pgn_requests.specs.Texts.{plain, without_head, without_tail}
-use Rattle.pgn_bodies.specs.Modes.{is_calm}
+use Rattle.pgn_statements.specs.Modes.{is_calm}
 use Rattle.pgn_statements.specs.Steps.{Asks}
-use Rattle.pgn_bodies.proofs.PlainLaws.{calm-plain}
+use Rattle.pgn_statements.proofs.PlainLaws.{calm-plain}
 use Rattle.pgn_statements.proofs.statement_reading.read_text.Goals as goal
 
 pub returns-then-is_plain : goal.returns-then-is_plain

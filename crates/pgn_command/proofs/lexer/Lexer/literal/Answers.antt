@@ -1,6 +1,6 @@
 use Rattle.std.proofs.Common.{ℕ, List, drop, sym, ap, ◌∙◌, subst, arith}
 use Rattle.pgn_language.specs.Tokens.{closed}
-use Rattle.pgn_quotes.specs.Texts.{IsInside}
+use Rattle.pgn_command.specs.Texts.{IsInside}
 use Rattle.pgn_command.specs.declared.bytes.Start.TheVariants as start
 use Rattle.pgn_command.proofs.TokenSteps.{literal-boundary, open-literal, found-boundary, starts-some, read-literal}
 use Rattle.pgn_command.proofs.lexer.Lexer.literal.Goals as goal

@@ -1,6 +1,6 @@
 use Rattle.std.proofs.Common.{ℕ, List, drop, sym, ap, ◌∙◌, subst, arith}
 use Rattle.pgn_language.specs.Tokens.{closed}
-use Rattle.pgn_quotes.specs.Texts.{IsInside}
+use Rattle.pgn_command.specs.Texts.{IsInside}
 use Rattle.pgn_command.specs.declared.bytes.Start.TheVariants as start
 use Rattle.pgn_command.proofs.TokenSteps.{quoted-boundary, open-quoted, found-boundary, starts-some, read-quoted, stuck-empty, none-some, some-none}
 use Rattle.pgn_command.proofs.lexer.Lexer.quoted.Goals as goal

@@ -1,7 +1,0 @@
-use Rattle.std.proofs.Common.{◌≡◌, ◌+◌, drop}
-use Rattle.std.specs.List.{prefix_len}
-use Rattle.pgn_requests.specs.Texts.{is_tail}
-use Rattle.pgn_bodies.proofs.bare.head_end.Given as goal
-
-abbrev pub invariant-loop-at : goal.invariant-loop-at
-invariant-loop-at l = prefix_len is_tail l.fn.bytes ≡ l.at + prefix_len is_tail (drop l.at l.fn.bytes)

@@ -1,4 +1,0 @@
-use Rattle.pgn_run.proofs.seating.destroy_all.Given as goal
-
-abbrev pub decreases-loop-inbox : goal.decreases-loop-inbox
-decreases-loop-inbox l = goal.left-loop-inbox l
