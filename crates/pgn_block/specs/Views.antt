@@ -1,5 +1,5 @@
 -- What contracts see of a block.
-use Rattle.std.specs.Prelude.{[]}
+use Rattle.std.specs.Prelude.{false, true, []}
 use Rattle.pgn_answers.specs.declared.block_state.BlockState.{BlockState}
 use Rattle.pgn_answers.specs.declared.block_state.BlockState.TheVariants.{Idle, InBlock, Failed}
 use Rattle.pgn_block.specs.Kept.{Kept, kept}
@@ -22,5 +22,5 @@ idle_view = viewed Idle (kept [] [] [])
 -- what is seen of a stage
 abbrev pub view_of : Stage → BlockView
 view_of (stage.Idle alloc seed) = idle_view
-view_of (stage.InBlock alloc seed pending) = viewed InBlock pending
-view_of (stage.Failed alloc seed pending) = viewed Failed pending
+view_of (stage.Open false alloc seed pending) = viewed InBlock pending
+view_of (stage.Open true alloc seed pending) = viewed Failed pending

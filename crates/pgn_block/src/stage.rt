@@ -16,20 +16,16 @@ use pgn_base::{
 use std::alloc::{AllocError, Global};
 use std::mem;
 
-/// The three states of a block, two of them with what is pending in it. In a failed block that is kept, since ROLLBACK TO goes
-/// back to what was before a savepoint. Each has the allocator and the seed, from which a new block is made.
+/// Whether a block is open, with what is pending in it. In a failed block that is kept, since ROLLBACK TO goes back to what was
+/// before a savepoint. Each has the allocator and the seed, from which a new block is made.
 #[derive(Drop)]
 pub(crate) enum Stage {
     Idle {
         alloc: Global,
         seed: Seed,
     },
-    InBlock {
-        alloc: Global,
-        seed: Seed,
-        pending: Pending,
-    },
-    Failed {
+    Open {
+        failed: bool,
         alloc: Global,
         seed: Seed,
         pending: Pending,
@@ -76,7 +72,8 @@ impl Stage {
                 let pending = Pending::new(alloc, seed);
                 drop(mem::replace(
                     self,
-                    Stage::InBlock {
+                    Stage::Open {
+                        failed: false,
                         alloc,
                         seed,
                         pending,
@@ -84,11 +81,11 @@ impl Stage {
                 ));
                 Effect::Reply { tag, warning: None }
             }
-            Stage::InBlock { .. } => Effect::Reply {
+            Stage::Open { failed: false, .. } => Effect::Reply {
                 tag,
                 warning: Some(Warning::AlreadyInBlock),
             },
-            Stage::Failed { .. } => aborted(),
+            Stage::Open { failed: true, .. } => aborted(),
         }
     }
 
@@ -101,8 +98,12 @@ impl Stage {
                 tag: Tag::Commit,
                 warning: Some(Warning::NotInBlock),
             },
-            Stage::InBlock { pending, .. } => commit_of(pending, Tag::Commit),
-            Stage::Failed { .. } => done(Tag::Rollback),
+            Stage::Open {
+                failed: false,
+                pending,
+                ..
+            } => commit_of(pending, Tag::Commit),
+            Stage::Open { failed: true, .. } => done(Tag::Rollback),
         }
     }
 
@@ -129,11 +130,15 @@ impl Stage {
     {
         match self {
             Stage::Idle { .. } => Ok(needs_block(Needs::Savepoint)),
-            Stage::InBlock { pending, .. } => {
+            Stage::Open {
+                failed: false,
+                pending,
+                ..
+            } => {
                 pending.mark(name)?;
                 Ok(done(Tag::Savepoint))
             }
-            Stage::Failed { .. } => Ok(aborted()),
+            Stage::Open { failed: true, .. } => Ok(aborted()),
         }
     }
 
@@ -146,14 +151,22 @@ impl Stage {
                 drop(name);
                 needs_block(Needs::RollbackTo)
             }
-            Stage::InBlock { pending, .. } => match pending.back_to(&name) {
+            Stage::Open {
+                failed: false,
+                pending,
+                ..
+            } => match pending.back_to(&name) {
                 Ok(()) => {
                     drop(name);
                     done(Tag::Rollback)
                 }
                 Err(NoSuch) => self.refuse(Refusal::NoSavepoint { name }),
             },
-            Stage::Failed { pending, .. } => match pending.back_to(&name) {
+            Stage::Open {
+                failed: true,
+                pending,
+                ..
+            } => match pending.back_to(&name) {
                 Ok(()) => {
                     drop(name);
                     self.reopen();
@@ -170,11 +183,15 @@ impl Stage {
     {
         match self {
             Stage::Idle { .. } => needs_block(Needs::Release),
-            Stage::InBlock { pending, .. } => match pending.release(&name) {
+            Stage::Open {
+                failed: false,
+                pending,
+                ..
+            } => match pending.release(&name) {
                 Ok(()) => done(Tag::Release),
                 Err(NoSuch) => self.refuse(Refusal::NoSavepoint { name }),
             },
-            Stage::Failed { .. } => aborted(),
+            Stage::Open { failed: true, .. } => aborted(),
         }
     }
 
@@ -194,11 +211,15 @@ impl Stage {
                     tag,
                 })
             }
-            Stage::InBlock { pending, .. } => {
+            Stage::Open {
+                failed: false,
+                pending,
+                ..
+            } => {
                 pending.action(action)?;
                 Ok(done(tag))
             }
-            Stage::Failed { .. } => Ok(aborted()),
+            Stage::Open { failed: true, .. } => Ok(aborted()),
         }
     }
 
@@ -218,11 +239,15 @@ impl Stage {
                     tag,
                 })
             }
-            Stage::InBlock { pending, .. } => {
+            Stage::Open {
+                failed: false,
+                pending,
+                ..
+            } => {
                 pending.note(note)?;
                 Ok(done(tag))
             }
-            Stage::Failed { .. } => {
+            Stage::Open { failed: true, .. } => {
                 drop(note);
                 Ok(aborted())
             }
@@ -234,8 +259,8 @@ impl Stage {
         ensures { (set : List (List ℕ)) → Steps self.now [] (λ _. asks kind set (view_of self.now).state) result self.now }
     {
         match self {
-            Stage::Idle { .. } | Stage::InBlock { .. } => Effect::Query { kind },
-            Stage::Failed { .. } => aborted(),
+            Stage::Idle { .. } | Stage::Open { failed: false, .. } => Effect::Query { kind },
+            Stage::Open { failed: true, .. } => aborted(),
         }
     }
 
@@ -243,7 +268,7 @@ impl Stage {
     fn invalid(&mut self, which: Which) -> Effect
         ensures { IsStep self.old (Command.Invalid which) result self.new }
     {
-        if let Stage::Failed { .. } = self {
+        if let Stage::Open { failed: true, .. } = self {
             return aborted();
         }
         self.refuse(Refusal::Bounds { which })
@@ -265,8 +290,8 @@ impl Stage {
     {
         match self {
             Stage::Idle { .. } => BlockState::Idle,
-            Stage::InBlock { .. } => BlockState::InBlock,
-            Stage::Failed { .. } => BlockState::Failed,
+            Stage::Open { failed: false, .. } => BlockState::InBlock,
+            Stage::Open { failed: true, .. } => BlockState::Failed,
         }
     }
 
@@ -293,57 +318,25 @@ impl Stage {
     fn fail(&mut self)
         ensures { view_of self.new ≡ failed_view (view_of self.old) }
     {
-        let Stage::InBlock {
-            alloc,
-            seed,
-            pending,
-        } = self
-        else {
-            return;
-        };
-        let alloc = *alloc;
-        let seed = *seed;
-        let pending = mem::replace(pending, Pending::new(alloc, seed));
-        drop(mem::replace(
-            self,
-            Stage::Failed {
-                alloc,
-                seed,
-                pending,
-            },
-        ));
+        if let Stage::Open { failed, .. } = self {
+            *failed = true;
+        }
     }
 
     // A failed block goes on.
     fn reopen(&mut self)
         ensures { view_of self.new ≡ open_view (view_of self.old) }
     {
-        let Stage::Failed {
-            alloc,
-            seed,
-            pending,
-        } = self
-        else {
-            return;
-        };
-        let alloc = *alloc;
-        let seed = *seed;
-        let pending = mem::replace(pending, Pending::new(alloc, seed));
-        drop(mem::replace(
-            self,
-            Stage::InBlock {
-                alloc,
-                seed,
-                pending,
-            },
-        ));
+        if let Stage::Open { failed, .. } = self {
+            *failed = false;
+        }
     }
 
     // What the next block's memory is taken from.
     fn alloc(&self) -> Global {
         match self {
             Stage::Idle { alloc, .. } => *alloc,
-            Stage::InBlock { alloc, .. } | Stage::Failed { alloc, .. } => *alloc,
+            Stage::Open { alloc, .. } => *alloc,
         }
     }
 
@@ -351,7 +344,7 @@ impl Stage {
     fn seed(&self) -> Seed {
         match self {
             Stage::Idle { seed, .. } => *seed,
-            Stage::InBlock { seed, .. } | Stage::Failed { seed, .. } => *seed,
+            Stage::Open { seed, .. } => *seed,
         }
     }
 }
