@@ -4,4 +4,3 @@ pub mod Views
 pub mod Effects
 pub mod Steps
 pub mod Laws
-pub mod Examples

@@ -19,7 +19,6 @@
 
 mod block;
 mod effect;
-pub mod examples;
 pub mod laws;
 mod pending;
 mod savepoint;

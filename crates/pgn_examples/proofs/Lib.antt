@@ -5,3 +5,11 @@ pub mod FullSteps
 pub mod RefusedSteps
 pub mod ApartSteps
 pub mod LawfulSteps
+pub mod LineLaws
+pub mod ReadingLaws
+pub mod FormSteps
+pub mod QueryLaws
+pub mod QueryReadings
+pub mod TurnLaws
+pub mod FrameLaws
+pub mod PackingSteps

@@ -6,9 +6,9 @@ use Rattle.pgn_base.specs.declared.format.Format.TheVariants.{One}
 use Rattle.pgn_journal.specs.Bytes.{header_bytes, aligned}
 use Rattle.pgn_journal.specs.Packing.{Sender, bytes_left, fits, put, after_bytes, after_rest, put_bytes}
 use Rattle.pgn_journal.specs.Pieces.{Piece, AnEntry, AFiller, note_pieces, notes_pieces, end_pieces, tx_pieces, pieces_from}
-use Rattle.pgn_journal.specs.examples.Packing.{letters, filler_journal}
+use Rattle.pgn_examples.specs.Packing.{letters, filler_journal}
 use Rattle.pgn_examples.specs.Pieces.{by, filler_pieces}
-use Rattle.pgn_journal.proofs.PackingSteps.{length-letters, put_letters, first_put}
+use Rattle.pgn_examples.proofs.PackingSteps.{length-letters, put_letters, first_put}
 
 -- the pieces of a notification by the number of letters alone
 pieces_letters : (format : Format) (sender : Sender) (at letter count : ℕ)

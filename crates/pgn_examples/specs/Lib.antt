@@ -15,3 +15,14 @@ pub mod Walks
 pub mod WholeRuns
 -- command lines and a drill
 pub mod CommandLines
+pub mod TakingMemory
+pub mod Lines
+pub mod Merge
+pub mod Reading
+pub mod Requests
+pub mod Queries
+pub mod Messages
+pub mod Turns
+pub mod Conversations
+pub mod Frames
+pub mod Packing

@@ -6,7 +6,7 @@ use Rattle.pgn_journal.specs.declared.tx.Tx.{Tx}
 use Rattle.pgn_journal.specs.declared.tx.Fate.TheVariants.{Committed, Aborted}
 use Rattle.pgn_journal.specs.Packing.{Sender}
 use Rattle.pgn_journal.specs.Pieces.{Piece, AnEntry, AFiller, draft}
-use Rattle.pgn_journal.specs.examples.Packing.{letters}
+use Rattle.pgn_examples.specs.Packing.{letters}
 use Rattle.pgn_examples.specs.Runs.{hello}
 use Rattle.pgn_examples.specs.Due.{c_name, on}
 

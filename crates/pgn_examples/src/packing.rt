@@ -4,7 +4,7 @@ ghost use Rattle.pgn_base.specs.declared.format.Format.TheVariants.{One, Two};
 ghost use Rattle.pgn_journal.specs.Bytes.{entry_length, spelled, filler, IsHead, IsEntryLength};
 ghost use Rattle.pgn_journal.specs.Packing.{page_of, place_at, bytes_left, fits, filled_cells, image, place, put, put_all, HasRoom};
 ghost use Rattle.pgn_examples.specs.Runs.{self_notify_journal};
-ghost use Rattle.pgn_journal.specs.examples.Packing.{virtual_note, virtual_bytes, virtual_cells, bare_note, bare_bytes, bare_bytes_two, large_number_bytes, filler_bytes, filler_bytes_two, letters, longest_note, rest_journal, filler_journal, filler_and_entry, filler_journal_two, filler_and_entry_two, full_journal, larger_journal};
+ghost use Rattle.pgn_examples.specs.Packing.{virtual_note, virtual_bytes, virtual_cells, bare_note, bare_bytes, bare_bytes_two, large_number_bytes, filler_bytes, filler_bytes_two, letters, longest_note, rest_journal, filler_journal, filler_and_entry, filler_journal_two, filler_and_entry_two, full_journal, larger_journal};
 
 /// The bytes of entries and of fillers, in both formats.
 pub fn entry_bytes()

@@ -5,7 +5,7 @@ ghost use Rattle.pgn_journal.specs.Due.{due};
 ghost use Rattle.pgn_journal.specs.Packing.{image, place_at};
 ghost use Rattle.pgn_journal.specs.Pieces.{AnEntry, AFiller, number_of, lay, pieces_from, gives, give_all, committed_by, QueuesAll, IsReadable, IsSamePiece, IsWritten, draft};
 ghost use Rattle.pgn_examples.specs.Runs.{hello, self_notify_journal};
-ghost use Rattle.pgn_journal.specs.examples.Packing.{filler_journal};
+ghost use Rattle.pgn_examples.specs.Packing.{filler_journal};
 ghost use Rattle.pgn_examples.specs.Due.{c_name, d_name, on, delivered, mixed_journal, third_tx};
 ghost use Rattle.pgn_examples.specs.Pieces.{by, self_notify_pieces, filler_pieces, aborted_pieces, nameless, half_draft, nameless_draft};
 

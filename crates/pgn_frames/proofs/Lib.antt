@@ -14,8 +14,6 @@ pub mod MoreLaws
 pub mod SignLaws
 -- what the writer has taken and given out
 pub mod WriteLaws
--- the frames and the queries of the examples
-mod ExampleLaws
 -- what stands at the front of bytes
 pub mod FrontLaws
 -- how a reader goes on from where it stands with a seat

@@ -12,5 +12,3 @@ pub mod Reading
 pub mod Writing
 -- that each input has one reading
 pub mod Laws
--- frames and clients, as examples
-pub mod Examples

@@ -7,7 +7,6 @@
 
 mod caller;
 mod counts;
-pub mod examples;
 mod frame_fault;
 mod framing;
 pub mod laws;

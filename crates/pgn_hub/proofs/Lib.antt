@@ -3,4 +3,3 @@ pub mod FloorLaws
 pub mod SeatLaws
 pub mod WithinLaws
 pub mod GatheredLaws
-mod ExampleLemmas

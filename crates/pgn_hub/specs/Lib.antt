@@ -8,5 +8,3 @@ pub mod Calls
 pub mod Gathered
 -- laws of what the calls say
 pub mod Laws
--- a worked example, call by call
-pub mod Examples

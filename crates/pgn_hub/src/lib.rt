@@ -7,8 +7,7 @@
 //! `publish` and `usage` may wait for the lock, and `rest` sleeps until a flag is raised or the time is over. The others wait for
 //! nobody. Only `open` and `scan` take memory.
 //!
-//! Laws of what the calls say, and worked examples, stand on public functions with an empty body, in the modules that are named
-//! after them.
+//! Laws of what the calls say stand on public functions with an empty body, in `laws`.
 //!
 //! A caller: a session that is no listener becomes one, and reads.
 //!
@@ -33,7 +32,6 @@
 //! ```
 #![tactic(auto)]
 
-pub mod examples;
 mod hub;
 mod known;
 pub mod laws;

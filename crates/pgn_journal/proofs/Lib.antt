@@ -5,7 +5,6 @@ pub mod InterestLaws
 pub mod TextBytes
 pub mod BytesLemmas
 pub mod PackingLemmas
-pub mod PackingSteps
 pub mod PlainNotes
 pub mod NearLaws
 pub mod QueueUseLaws

@@ -10,6 +10,5 @@ pub mod Packing
 pub mod Near
 pub mod QueueUse
 pub mod Pieces
--- laws over these definitions, and the data of worked examples that several crates use
+-- laws over these definitions
 pub mod laws
-pub mod examples

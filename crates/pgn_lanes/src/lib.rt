@@ -12,13 +12,11 @@
 //! A reader of the queue's entries ends the channel of an entry by `first_zero(bytes)`: what stands before that place is the name.
 #![tactic(auto)]
 
-mod examples;
 mod laws;
 mod minimum;
 mod wakes;
 mod zeros;
 
-pub use examples::{behind_examples, least_examples, zero_examples};
 pub use laws::{behind_laws, least_laws};
 pub use minimum::least;
 pub use wakes::behind;

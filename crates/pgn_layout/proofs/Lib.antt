@@ -4,5 +4,4 @@ pub mod BatchLaws
 pub mod FillerLaws
 pub mod PlacingLaws
 pub mod OneBatchLaws
-pub mod ExampleSteps
 pub mod StatusLaws

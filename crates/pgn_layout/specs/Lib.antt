@@ -1,4 +1,3 @@
 pub mod Batches
 pub mod Status
 pub mod Laws
-pub mod Examples

@@ -14,7 +14,6 @@
 #![tactic(auto)]
 
 mod batch;
-pub mod examples;
 pub mod laws;
 mod packing;
 mod pos;

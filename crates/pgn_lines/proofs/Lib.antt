@@ -6,4 +6,3 @@ pub mod FamilyLaws
 pub mod PartLaws
 pub mod AnswerParts
 pub mod OnceLaws
-pub mod ExampleLaws

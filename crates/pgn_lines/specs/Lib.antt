@@ -1,4 +1,3 @@
 pub mod Shown
 pub mod Fields
-pub mod Examples
 pub mod Rows

@@ -12,7 +12,6 @@
 mod answers;
 mod entries;
 mod events;
-pub mod examples;
 mod fields;
 pub mod laws;
 mod line;

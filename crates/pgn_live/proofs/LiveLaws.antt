@@ -22,7 +22,6 @@ use Rattle.pgn_text.specs.declared.out.Out.{Out}
 use Rattle.pgn_text.specs.Rendering.{Puts}
 use Rattle.pgn_text.proofs.PutsLaws.{Puts-none, Puts-same, Puts-trans, Writes-from_Puts}
 use Rattle.pgn_live.specs.Cames.{Came, Hand, items_in, items_of}
-use Rattle.pgn_live.specs.Examples.{line_of}
 use Rattle.pgn_live.specs.Lives.{answer_of, log_of, logs_of, tagged, AreFirst, AreWhole, CameTo, ComesFirst, ComesWhole, IsNumber, Wrote}
 use Rattle.pgn_live.specs.Playing.{sections_of, HasPlayed, HasPlayedOut, HavePlayed}
 use Rattle.pgn_live.proofs.CameLaws.{items_of-append, items_same, none_of_other}
@@ -306,14 +305,3 @@ gave-up-first sections new before = record { cames = []; first = λ n. record { 
 
 -- what a run comes to that ends before it begins
 pub ruleset early_laws = (gave-up-first, stand-fresh)
-
--- lines of two sessions that are mixed
-pub mixed : AreWhole ((line_of 1 3 ∷ line_of 1 4 ∷ []) ++ line_of 2 5 ∷ []) (line_of 1 3 ∷ line_of 2 5 ∷ line_of 1 4 ∷ [])
-mixed n = either (cases_eq 2 n)
-  where
-    either : (2 ≡ n) ⊎ (2 ≡ n → ⊥) → items_of n (line_of 1 3 ∷ line_of 2 5 ∷ line_of 1 4 ∷ []) ≡ items_of n ((line_of 1 3 ∷ line_of 1 4 ∷ []) ++ line_of 2 5 ∷ [])
-    either (inl e) = subst (λ (m : ℕ). items_of m (line_of 1 3 ∷ line_of 2 5 ∷ line_of 1 4 ∷ []) ≡ items_of m ((line_of 1 3 ∷ line_of 1 4 ∷ []) ++ line_of 2 5 ∷ [])) e refl
-    either (inr apart) =
-        let none : items_in n (line_of 2 5) ≡ [] = none_of_other n (line_of 2 5) apart in
-        let rest : List Item = items_in n (line_of 1 4) in
-        ap (λ (l : List Item). items_in n (line_of 1 3) ++ (l ++ (rest ++ []))) none ∙ ap (λ (l : List Item). items_in n (line_of 1 3) ++ (rest ++ l)) (sym (ap (λ (l : List Item). l ++ []) none))

@@ -10,5 +10,3 @@ pub mod Turns
 pub mod Lives
 -- what holds of them as workers
 pub mod Workers
--- data of the examples
-pub mod Examples

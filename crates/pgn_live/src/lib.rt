@@ -11,7 +11,6 @@
 //! some journal.
 #![tactic(auto)]
 
-pub mod examples;
 mod live_sessions;
 mod lives;
 mod relay;

@@ -6,5 +6,3 @@ pub mod Bare
 pub mod Slots
 -- laws of what traces show
 pub mod Laws
--- items, bare, computed
-pub mod Examples

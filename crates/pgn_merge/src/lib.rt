@@ -18,7 +18,6 @@
 //! ```
 #![tactic(auto)]
 
-pub mod examples;
 pub mod laws;
 mod merging;
 

@@ -20,7 +20,5 @@ pub mod MessageLaws
 pub mod ScriptLaws
 -- what is told of names that are cut
 mod CutLaws
--- one query, with a read behind it or without
-mod TurnExampleLaws
 -- what loops put
 mod PutLaws

@@ -4,8 +4,6 @@ pub mod Server
 pub mod Messages
 -- how they grow
 pub mod Laws
--- four conversations, and an error that ends one
-pub mod Examples
 -- what a seat is asked, and its script
 pub mod Asks
 -- what a client of a service is answered
@@ -18,7 +16,3 @@ pub mod Turns
 pub mod Sayings
 -- how turns grow, and what they make of a trace
 pub mod TurnLaws
--- worked examples
-pub mod TurnExamples
--- what clients of a service are told beside, byte by byte
-pub mod Conversations

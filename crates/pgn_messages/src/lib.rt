@@ -26,7 +26,6 @@ mod asked;
 mod bytes;
 mod cutting;
 mod digits;
-pub mod examples;
 pub mod laws;
 mod lines;
 mod saying;
@@ -37,7 +36,6 @@ mod settling;
 mod statuses;
 mod telling;
 mod texts;
-pub mod turn_examples;
 pub mod turn_laws;
 mod wordings;
 

@@ -1,4 +1,3 @@
 pub mod CameLaws
 mod EachLaws
-mod KeptLaws
-mod ExampleLaws
+pub mod KeptLaws

@@ -4,5 +4,3 @@ pub mod Cames
 pub mod Rule
 -- what a pass knows
 pub mod Passes
--- examples
-pub mod Examples

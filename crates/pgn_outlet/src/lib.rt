@@ -30,7 +30,6 @@
 
 mod bell;
 mod came;
-pub mod examples;
 mod hand;
 mod outlet;
 mod plays;

@@ -6,7 +6,3 @@ pub mod QueryLaws
 pub mod OneLaws
 -- each list of bytes has a reading
 pub mod EachLaws
--- readings of bytes that are known
-pub mod ExampleLaws
--- what the bytes of the examples read as
-pub mod ExampleReadings

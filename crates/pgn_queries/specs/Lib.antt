@@ -6,5 +6,3 @@ pub mod Queries
 pub mod Script
 -- they have one reading
 pub mod Laws
--- what clients send, for examples
-pub mod Examples

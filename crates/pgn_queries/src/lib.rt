@@ -18,7 +18,6 @@
 #![tactic(auto)]
 
 mod coming;
-pub mod examples;
 mod full_read;
 pub mod laws;
 mod limits;

@@ -9,5 +9,3 @@ pub mod ShownLaws
 pub mod BlameLaws
 pub mod GoesOnLaws
 pub mod WholeLaws
-pub mod ExampleLaws
-pub mod FormExamples

@@ -18,5 +18,3 @@ pub mod BlameLaws
 pub mod GoesOnLaws
 -- laws of all sections together
 pub mod WholeLaws
--- data of the examples
-pub mod Examples

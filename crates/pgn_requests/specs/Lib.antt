@@ -12,5 +12,3 @@ pub mod Phrases
 pub mod Reading
 -- a body asks for one thing
 pub mod Laws
--- examples of texts and of what they ask for
-pub mod Examples

@@ -2,7 +2,6 @@
 #![tactic(auto)]
 
 mod complaint;
-mod examples;
 mod laws;
 mod limits;
 mod mode;
@@ -14,9 +13,6 @@ mod short_text;
 mod verdict;
 
 pub use complaint::{Cause, Complaint, Wording};
-pub use examples::{
-    assignments, bare_texts, bracketed_calls, constants, transaction_modes, values,
-};
 pub use laws::one_request;
 pub use limits::TOKENS_MAX;
 pub use mode::Mode;

@@ -8,5 +8,3 @@ pub mod Live
 pub mod Run
 -- what each command comes to, of which that is said
 pub mod Calls
--- a live text, for examples
-pub mod Examples

@@ -18,7 +18,6 @@
 #![tactic(auto)]
 
 mod checking;
-pub mod examples;
 mod live_run;
 mod parting;
 mod print;

@@ -16,5 +16,3 @@ pub mod DeskTurnLaws
 pub mod DeskHalfLaws
 -- desks as workers
 pub mod DeskWorkLaws
--- why examples are refused
-mod ExampleLaws

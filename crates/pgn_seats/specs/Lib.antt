@@ -6,5 +6,3 @@ pub mod Working
 pub mod Desks
 -- desks as workers
 pub mod Workers
--- examples
-pub mod Examples

@@ -17,7 +17,6 @@ mod answering;
 mod desk;
 mod desks;
 mod discarding;
-pub mod examples;
 mod hearing;
 mod lines;
 mod resetting;

@@ -12,5 +12,3 @@ pub mod ArmLaws
 pub mod ClosingLaws
 -- what it comes to whole
 pub mod ServiceLaws
--- small services, by hand
-pub mod SeatExampleLaws

@@ -10,5 +10,3 @@ pub mod Arms
 pub mod Closing
 -- how it ends
 pub mod Ending
--- what a client sees, for examples
-pub mod Examples

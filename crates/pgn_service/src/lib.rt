@@ -13,7 +13,6 @@ mod arms;
 mod client;
 mod closing;
 mod conversing;
-pub mod examples;
 mod means;
 mod seating;
 mod service;

@@ -54,5 +54,3 @@ pub mod OpenLaws
 pub mod LineTakenLaws
 -- its `\quit`
 pub mod OpenQuitLaws
--- why examples are refused
-mod ExampleLemmas

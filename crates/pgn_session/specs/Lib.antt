@@ -12,8 +12,6 @@ pub mod Sleep
 pub mod Whole
 -- what holds of a session before it runs and once it has run
 pub mod Runs
--- data of examples
-pub mod Examples
 -- a script that grows
 pub mod Feed
 -- before which lines a session reads

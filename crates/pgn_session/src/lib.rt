@@ -35,7 +35,6 @@
 mod command;
 mod commit;
 mod doing;
-pub mod examples;
 mod feeding;
 mod first_read;
 mod line;

@@ -27,7 +27,6 @@
 #![tactic(auto)]
 
 mod draining;
-pub mod examples;
 mod hub_sessions;
 pub mod laws;
 mod opening;

@@ -4,5 +4,3 @@ pub mod TakenLaws
 pub mod WrittenLaws
 -- a client that is served, a query at a time
 pub mod ServingLaws
--- half an answer is none, for examples
-mod ExampleLaws

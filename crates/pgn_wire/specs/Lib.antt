@@ -1,4 +1,2 @@
 -- what holds of a session that serves a client
 pub mod Serving
--- an answer, for examples
-pub mod Examples

@@ -9,7 +9,6 @@
 #![tactic(auto)]
 
 mod answering;
-pub mod examples;
 mod host;
 mod quitting;
 mod serving;

@@ -1,5 +1,5 @@
 mod LockLaws
-mod WayLaws
+pub mod WayLaws
 mod ReadingLaws
 mod ReadLaws
 mod ListenLaws
@@ -16,4 +16,3 @@ mod UsageLaws
 mod PublishLaws
 mod ServingLaws
 mod StayLaws
-mod RefusedCases

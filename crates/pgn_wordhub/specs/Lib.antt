@@ -6,4 +6,3 @@ pub mod Floors
 pub mod Looks
 pub mod Advancing
 pub mod Finishing
-pub mod Examples

@@ -9,11 +9,10 @@
 //! `asyncQueueAddEntries` and asks `asyncQueueIsFull`; then come `SignalBackends` and once in a while `asyncQueueAdvanceTail`. A
 //! session joins in `Exec_ListenPreCommit`, and reads in `asyncQueueReadAllNotifications`.
 //!
-//! Only `open` and `scan` take memory. `examples` has small cases that the definitions of this crate refuse.
+//! Only `open` and `scan` take memory.
 #![tactic(auto)]
 
 mod bells;
-pub mod examples;
 mod floor;
 mod hub;
 mod joining;

@@ -30,4 +30,3 @@ pub mod TakenKept
 pub mod CloseLaws
 pub mod RuleLaws
 pub mod WayLaws
-pub mod RefusedSteps

@@ -13,4 +13,3 @@ pub mod Interests
 pub mod Passes
 pub mod Closing
 pub mod Laws
-pub mod Examples

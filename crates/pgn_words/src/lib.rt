@@ -25,7 +25,6 @@
 
 mod cells;
 mod closing;
-pub mod examples;
 mod flags;
 mod interests;
 pub mod laws;

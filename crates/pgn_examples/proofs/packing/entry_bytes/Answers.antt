@@ -2,7 +2,7 @@ use Rattle.std.proofs.Common.{refl}
 use Rattle.pgn_base.specs.declared.format.Format.TheVariants.{One, Two}
 use Rattle.pgn_journal.specs.Bytes.{header, entry_length, spelled, filler}
 use Rattle.pgn_journal.specs.Packing.{filled_cells}
-use Rattle.pgn_journal.proofs.PackingSteps.{length-longest}
+use Rattle.pgn_examples.proofs.PackingSteps.{length-longest}
 use Rattle.pgn_examples.proofs.packing.entry_bytes.Goals as goal
 
 pub returns-clause-whole : goal.returns-clause-whole

@@ -1,5 +1,5 @@
 use Rattle.pgn_base.specs.declared.format.Format.TheVariants.{One}
-use Rattle.pgn_journal.proofs.PackingSteps.{length-letters, edge, short_of_edge, past_edge, no_room, rest_empty, filler_cells-edge}
+use Rattle.pgn_examples.proofs.PackingSteps.{length-letters, edge, short_of_edge, past_edge, no_room, rest_empty, filler_cells-edge}
 use Rattle.pgn_examples.proofs.packing.page_edge.Goals as goal
 
 pub returns-clause-lengths : goal.returns-clause-lengths

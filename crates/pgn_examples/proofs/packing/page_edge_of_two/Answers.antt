@@ -1,5 +1,5 @@
 use Rattle.pgn_base.specs.declared.format.Format.TheVariants.{Two}
-use Rattle.pgn_journal.proofs.PackingSteps.{length-letters, length-longest, edge_two, short_of_edge_two, past_edge_two, filler_cells-edge_two}
+use Rattle.pgn_examples.proofs.PackingSteps.{length-letters, length-longest, edge_two, short_of_edge_two, past_edge_two, filler_cells-edge_two}
 use Rattle.pgn_examples.proofs.packing.page_edge_of_two.Goals as goal
 
 pub returns-clause-lengths : goal.returns-clause-lengths

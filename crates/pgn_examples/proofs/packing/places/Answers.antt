@@ -2,9 +2,9 @@ use Rattle.std.proofs.Common.{refl, ap, arith}
 use Rattle.pgn_journal.specs.Bytes.{header, entry_length, spelled}
 use Rattle.pgn_journal.specs.Packing.{filled_cells, page_rest, entry_cells, note_cells, notes_cells, end_cells, tx_cells, image_from, image, place, page_of}
 use Rattle.pgn_base.specs.declared.format.Format.TheVariants.{One}
-use Rattle.pgn_journal.specs.examples.Packing.{full_journal}
+use Rattle.pgn_examples.specs.Packing.{full_journal}
 use Rattle.pgn_journal.proofs.PackingLemmas.{first_place}
-use Rattle.pgn_journal.proofs.PackingSteps.{full_4, full_5, full_6, full_7, full_8, larger_end, larger_4, larger_5}
+use Rattle.pgn_examples.proofs.PackingSteps.{full_4, full_5, full_6, full_7, full_8, larger_end, larger_4, larger_5}
 use Rattle.pgn_examples.proofs.packing.places.Goals as goal
 
 pub returns-clause-one_entry : goal.returns-clause-one_entry

@@ -1,2 +1,0 @@
--- Data of worked examples that several crates use.
-pub mod Packing

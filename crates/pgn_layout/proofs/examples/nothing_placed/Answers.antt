@@ -1,9 +1,0 @@
-use Rattle.std.proofs.Common.{arith}
-use Rattle.pgn_layout.proofs.ExampleSteps.{none_placed, no_filler_placed}
-use Rattle.pgn_layout.proofs.examples.nothing_placed.Goals as goal
-
-pub returns-clause-there : goal.returns-clause-there
-returns-clause-there c = none_placed
-
-pub returns-clause-filler : goal.returns-clause-filler
-returns-clause-filler c = λ sender placed. omega (arith, no_filler_placed sender 2048 _ placed)
