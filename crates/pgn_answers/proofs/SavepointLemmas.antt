@@ -8,7 +8,7 @@ use Rattle.std.proofs.lemmas.List.Elements.{All-nil, All-cons, All-weaker}
 use Rattle.std.proofs.lemmas.List.Kept.{AllPairs-cons}
 use Rattle.pgn_base.specs.Names.{has_name}
 use Rattle.pgn_base.specs.declared.note.Note.{Note}
-use Rattle.pgn_base.specs.declared.listen_set.Action.{Action}
+use Rattle.pgn_base.specs.declared.action.Action.{Action}
 use Rattle.pgn_answers.specs.Savepoints.{Change, Saved, Acted, Noted, RolledBack, Released, is_savepoint, is_savepoint_of, has_savepoint, rolled_back, released, survivors, survivors_from, live_names, saved_name, acted_action, noted_note, surviving_actions, surviving_notes, same_note, firsts, firsts_after, has_note, once_after, once, live_changes, after_change}
 use Rattle.pgn_answers.specs.laws.Savepoints.{IsSublist}
 

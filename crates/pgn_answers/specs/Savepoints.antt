@@ -2,8 +2,8 @@
 use Rattle.std.specs.Prelude.{ℕ, Bool, true, false, cond, ◌&&◌, not, List, [], ◌∷◌, ◌++◌, length, Option, Some, None, bytes_eq, filter, filter_map}
 use Rattle.std.specs.List.{list_any}
 use Rattle.pgn_base.specs.declared.note.Note.{Note}
-use Rattle.pgn_base.specs.declared.listen_set.Action.{Action}
-use Rattle.pgn_base.specs.declared.listen_set.Action.TheVariants.{Listen, Unlisten, UnlistenAll}
+use Rattle.pgn_base.specs.declared.action.Action.{Action}
+use Rattle.pgn_base.specs.declared.action.Action.TheVariants.{Listen, Unlisten, UnlistenAll}
 use Rattle.pgn_base.specs.declared.command.Command.{Command}
 use Rattle.pgn_base.specs.declared.command.Command.TheVariants as command
 

@@ -1,4 +1,2 @@
-pub mod ListeningLaws
-pub mod BitsLaws
 pub mod OutsideLaws
 mod FaultLaws

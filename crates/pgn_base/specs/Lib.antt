@@ -3,7 +3,6 @@ pub mod Texts
 pub mod Names
 pub mod Notes
 pub mod Channels
-pub mod Listening
 pub mod Interest
 pub mod Outside
 pub mod Hashes

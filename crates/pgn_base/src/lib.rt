@@ -11,23 +11,20 @@
 //!
 //! ```
 //! let alloc = rt.alloc();
-//! let mut actions = Actions::new(alloc);
-//! actions.push(Action::Listen(Name::new(alloc, "c")?))?;
-//! let mut set = ListenSet::new(alloc, Seed::fixed());
-//! set.reserve(1)?;
-//! set.apply(actions);
-//! assert!(rt; set.contains(b"c"));
+//! let mut names = Names::new(alloc);
+//! names.push(Name::new(alloc, "c")?)?;
+//! assert!(rt; names.as_slice()[0].as_bytes() == b"c");
 //! ```
 #![tactic(auto)]
 
+mod action;
 mod answers;
-mod channel_bits;
+mod channels;
 mod command;
 mod copied;
 mod format;
 mod in_place;
 mod limits;
-mod listen_set;
 mod name;
 mod note;
 mod numbers;
@@ -39,17 +36,18 @@ mod sink;
 mod source;
 mod text;
 
+pub use action::{Action, Actions};
 pub use answers::{Needs, Refusal, Tag, Warning, Which};
-pub use channel_bits::channel_bit;
+pub use channels::channel_bit;
 pub use command::Command;
 pub use copied::Copied;
 pub use format::Format;
+pub use in_place::InPlace;
 pub use limits::{
     CELL_BYTES, CLEANUP_DELAY_PAGES, FIRST_XID, FLAGS_MAX, HUB_FLAGS_MAX, HUB_NOTES_MAX,
     INPUT_BYTES_MAX, LINE_BYTES_MAX, NAME_BYTES_MAX, NOTE_LINES_MAX, PAGE_BYTES, PAGES_DEFAULT,
     PAGES_MAX, PAGES_MIN, PATIENCE_DEFAULT, PAYLOAD_BYTES_MAX, PID_BASE, REPEATS_MAX, SECTIONS_MAX,
 };
-pub use listen_set::{Action, Actions, ListenSet};
 pub use name::{Name, NameFault, Names};
 pub use note::{Deliveries, Delivery, Note, Notes, are_notes};
 pub use numbers::{DbOid, SessionNo, Xid};

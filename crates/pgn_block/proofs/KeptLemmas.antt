@@ -9,7 +9,7 @@ use Rattle.std.proofs.lemmas.Option.{slice_get-get_or, slice_get_read}
 use Rattle.std.proofs.Math.Seq.{take-append_seam, take-append-add, drop-append-add}
 use Rattle.pgn_base.specs.Names.{has_name}
 use Rattle.pgn_base.specs.declared.note.Note.{Note}
-use Rattle.pgn_base.specs.declared.listen_set.Action.{Action}
+use Rattle.pgn_base.specs.declared.action.Action.{Action}
 use Rattle.pgn_answers.specs.Savepoints.{Change, Saved, Acted, Noted, RolledBack, Released, is_savepoint, has_savepoint, rolled_back, released, live_names, acted_action, noted_note, surviving_actions, surviving_notes, same_note, firsts, has_note, live_changes}
 use Rattle.pgn_answers.proofs.SavepointLemmas.{rolled_back-cuts, release-keeps, rolled_back-none, released-none, live-has_savepoint, live-saved, live-acted, live-after_change, live-rolled_back, live-released, live-has_actions, live-has_firsts}
 use Rattle.pgn_block.specs.declared.savepoint.Savepoint.{Savepoint}

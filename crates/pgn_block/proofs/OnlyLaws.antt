@@ -2,7 +2,7 @@
 use Rattle.std.proofs.Common.{◌≡◌, List, [], ◌∷◌, ◌++◌, ap, ◌∙◌}
 use Rattle.pgn_base.specs.declared.answers.Tag.{Tag}
 use Rattle.pgn_base.specs.declared.note.Note.{Note}
-use Rattle.pgn_base.specs.declared.listen_set.Action.{Action}
+use Rattle.pgn_base.specs.declared.action.Action.{Action}
 use Rattle.pgn_answers.specs.Answers.{Commits}
 use Rattle.pgn_answers.specs.Savepoints.{Change, Acted, Noted, surviving_actions}
 use Rattle.pgn_block.specs.Kept.{kept, StandsFor}

@@ -11,8 +11,8 @@ use Rattle.std.proofs.lemmas.List.{append_cancel_left, drop_more}
 use Rattle.std.proofs.lemmas.List.Folds.{list_any-append}
 use Rattle.pgn_base.specs.Names.{has_name}
 use Rattle.pgn_base.specs.Channels.{after_action, applied}
-use Rattle.pgn_base.specs.declared.listen_set.Action.{Action}
-use Rattle.pgn_base.specs.declared.listen_set.Action.TheVariants.{Listen, Unlisten, UnlistenAll}
+use Rattle.pgn_base.specs.declared.action.Action.{Action}
+use Rattle.pgn_base.specs.declared.action.Action.TheVariants.{Listen, Unlisten, UnlistenAll}
 use Rattle.pgn_base.specs.declared.note.Delivery.{Delivery}
 use Rattle.pgn_journal.specs.declared.tx.Tx.{Tx}
 use Rattle.pgn_journal.specs.Due.{due, is_due_to}

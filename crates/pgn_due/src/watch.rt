@@ -10,7 +10,8 @@ ghost use Rattle.pgn_due.specs.Sent.{sent_in};
 ghost use Rattle.pgn_due.specs.Next.{Changes, IsLess, IsMore, IsWatch, Passes};
 
 use crate::feed::Feed;
-use pgn_base::{Action, DbOid, Delivery, FIRST_XID, ListenSet, Name, Xid};
+use pgn_base::{Action, DbOid, Delivery, FIRST_XID, Name, Xid};
+use pgn_listening::ListenSet;
 use std::alloc::{AllocError, Global};
 use std::collections::BTreeSet;
 

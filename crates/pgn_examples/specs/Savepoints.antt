@@ -2,8 +2,8 @@
 use Rattle.std.specs.Prelude.{ℕ, List, [], ◌∷◌, ◌++◌, Some, None, codes}
 use Rattle.std.specs.List.{flat_map}
 use Rattle.pgn_base.specs.declared.note.Note.{Note}
-use Rattle.pgn_base.specs.declared.listen_set.Action.{Action}
-use Rattle.pgn_base.specs.declared.listen_set.Action.TheVariants as action
+use Rattle.pgn_base.specs.declared.action.Action.{Action}
+use Rattle.pgn_base.specs.declared.action.Action.TheVariants as action
 use Rattle.pgn_base.specs.declared.answers.Tag.TheVariants as tag
 use Rattle.pgn_base.specs.declared.answers.Warning.TheVariants.{NotInBlock}
 use Rattle.pgn_base.specs.declared.answers.Which.TheVariants.{PayloadTooLong}

@@ -1,7 +1,7 @@
 -- What a step gives, computed.
 use Rattle.std.specs.Prelude.{ℕ, List, [], ◌∷◌, Some, None, codes}
 use Rattle.pgn_base.specs.declared.note.Note.{Note}
-use Rattle.pgn_base.specs.declared.listen_set.Action.TheVariants as action
+use Rattle.pgn_base.specs.declared.action.Action.TheVariants as action
 use Rattle.pgn_base.specs.declared.answers.Tag.TheVariants as tag
 use Rattle.pgn_base.specs.declared.answers.Warning.TheVariants.{NotInBlock}
 use Rattle.pgn_base.specs.declared.answers.Which.TheVariants.{ChannelEmpty}

@@ -6,7 +6,8 @@ ghost use Rattle.pgn_hub.specs.Calls.{HasPublished, HasEnlisted, HasHeard, HasIn
 ghost use Rattle.pgn_hub.specs.Gathered.{Gathered};
 
 use crate::{PassView, Roll, Setup};
-use pgn_base::{Delivery, Enlisted, Full, ListenSet, Note, Usage, Xid};
+use pgn_base::{Delivery, Enlisted, Full, Note, Usage, Xid};
+use pgn_listening::ListenSet;
 use std::alloc::{AllocError, Global};
 use std::sync::Wait;
 use std::time::Duration;

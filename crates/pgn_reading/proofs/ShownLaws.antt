@@ -4,7 +4,7 @@ use Rattle.std.specs.Prelude.{All, Contains, flat_map}
 use Rattle.std.specs.List.{list_any}
 use Rattle.std.proofs.lemmas.List.Elements.{All-nil, All-cons, All-head, All-tail, All-append}
 use Rattle.pgn_base.specs.declared.note.Note.{Note}
-use Rattle.pgn_base.specs.declared.listen_set.Action.{Action}
+use Rattle.pgn_base.specs.declared.action.Action.{Action}
 use Rattle.pgn_journal.specs.declared.tx.Tx.{Tx}
 use Rattle.pgn_answers.specs.declared.block_state.BlockState.TheVariants.{Idle}
 use Rattle.pgn_answers.specs.Savepoints.{Change, changes_of, live_names, surviving_actions, surviving_notes, firsts, is_listen}

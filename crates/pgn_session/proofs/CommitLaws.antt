@@ -3,7 +3,7 @@ use Rattle.std.proofs.Common.{◌≡◌, ℕ, ◌+◌, ◌≤◌, cond, List, []
 use Rattle.std.proofs.lemmas.List.Sums.{sum_by-cons}
 use Rattle.pgn_base.specs.declared.note.Note.{Note}
 use Rattle.pgn_base.specs.declared.answers.Tag.{Tag}
-use Rattle.pgn_base.specs.declared.listen_set.Action.{Action}
+use Rattle.pgn_base.specs.declared.action.Action.{Action}
 use Rattle.pgn_answers.specs.declared.block_state.BlockState.{BlockState}
 use Rattle.pgn_answers.specs.declared.block_state.BlockState.TheVariants.{Idle}
 use Rattle.pgn_base.specs.declared.command.Command.{Command}

@@ -4,7 +4,7 @@ use Rattle.std.proofs.lemmas.List.Elements.{All-nil, All-cons, All-head}
 use Rattle.pgn_base.specs.declared.note.Note.{Note}
 use Rattle.pgn_base.specs.declared.answers.Tag.{Tag}
 use Rattle.pgn_base.specs.declared.answers.Tag.TheVariants as tag
-use Rattle.pgn_base.specs.declared.listen_set.Action.{Action}
+use Rattle.pgn_base.specs.declared.action.Action.{Action}
 use Rattle.pgn_base.specs.declared.command.Command.{Command}
 use Rattle.pgn_language.specs.declared.scenario.Act.TheVariants.{Run}
 use Rattle.pgn_language.specs.declared.scenario.ScriptLine.{ScriptLine}

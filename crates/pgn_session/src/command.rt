@@ -10,9 +10,10 @@ ghost use Rattle.pgn_session.specs.Whole.{HasRest, RestsAt, ComesWith, HasSteppe
 use crate::commit::Commit;
 use crate::line::{measure, put};
 use crate::{Doing, Session, Step};
-use pgn_base::{Command, ListenSet, Names, Tag};
+use pgn_base::{Command, Names, Tag};
 use pgn_block::{Block, Effect, Kind};
 use pgn_hub::{Hub, PassView};
+use pgn_listening::ListenSet;
 use pgn_model::Item;
 use std::alloc::{AllocError, Global};
 use std::sync::Wait;

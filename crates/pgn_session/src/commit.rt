@@ -6,8 +6,9 @@ ghost use Rattle.pgn_session.specs.Commits.{HasJoined, HasSent, HasLeftOr, HasCo
 
 use crate::Session;
 use crate::line::put;
-use pgn_base::{Action, Actions, Enlisted, Full, ListenSet, Note, Notes, Refusal, Tag, Xid};
+use pgn_base::{Action, Actions, Enlisted, Full, Note, Notes, Refusal, Tag, Xid};
 use pgn_hub::{Hub, PassView};
+use pgn_listening::ListenSet;
 use pgn_model::Item;
 use std::sync::Wait;
 

@@ -3,8 +3,9 @@ ghost use Rattle.pgn_hub.specs.Calls.{HasLearned};
 ghost use Rattle.pgn_session.specs.Parts.{HasReadOn, with_read};
 
 use crate::line::put;
-use pgn_base::{Deliveries, ListenSet, Xid};
+use pgn_base::{Deliveries, Xid};
 use pgn_hub::{Hub, PassView};
+use pgn_listening::ListenSet;
 use pgn_model::Item;
 use std::alloc::{AllocError, Global};
 

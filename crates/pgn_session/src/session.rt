@@ -13,10 +13,11 @@ ghost use Rattle.pgn_session.specs.Runs.{HasGivenUp};
 use crate::reading::{Reading, read_on};
 use crate::{Doing, FlagPlan, IdleDone};
 use pgn_answers::BlockState;
-use pgn_base::{ListenSet, Seed, SessionNo};
+use pgn_base::{Seed, SessionNo};
 use pgn_block::Block;
 use pgn_hub::{Hub, PassView};
 use pgn_language::Section;
+use pgn_listening::ListenSet;
 use pgn_model::{Item, Items, Trace};
 use std::alloc::{AllocError, Global};
 

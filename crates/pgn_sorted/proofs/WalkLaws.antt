@@ -8,8 +8,8 @@ use Rattle.pgn_base.specs.declared.note.Delivery.{Delivery}
 use Rattle.pgn_base.specs.declared.limits.TheConstants.{FIRST_XID}
 use Rattle.pgn_base.specs.declared.command.Command.{Command}
 use Rattle.pgn_base.specs.declared.command.Command.TheVariants as command
-use Rattle.pgn_base.specs.declared.listen_set.Action.{Action}
-use Rattle.pgn_base.specs.declared.listen_set.Action.TheVariants.{Listen, Unlisten, UnlistenAll}
+use Rattle.pgn_base.specs.declared.action.Action.{Action}
+use Rattle.pgn_base.specs.declared.action.Action.TheVariants.{Listen, Unlisten, UnlistenAll}
 use Rattle.pgn_base.specs.Channels.{after_action, applied}
 use Rattle.pgn_base.specs.Names.{has_name}
 use Rattle.pgn_journal.specs.declared.tx.Tx.{Tx}

@@ -8,7 +8,7 @@ use Rattle.pgn_base.specs.declared.command.Command.{Command}
 use Rattle.pgn_base.specs.declared.command.Command.TheVariants as command
 use Rattle.pgn_base.specs.declared.answers.Tag.{Tag}
 use Rattle.pgn_base.specs.declared.answers.Refusal.TheVariants as refused
-use Rattle.pgn_base.specs.declared.listen_set.Action.{Action}
+use Rattle.pgn_base.specs.declared.action.Action.{Action}
 use Rattle.pgn_base.specs.declared.queue_answers.Full.{Full}
 use Rattle.pgn_base.specs.declared.queue_answers.Usage.{Usage}
 use Rattle.pgn_base.specs.Channels.{applied}

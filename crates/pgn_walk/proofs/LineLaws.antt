@@ -1,9 +1,9 @@
 -- A line of the script begins.
 use Rattle.std.proofs.Common.{◌≡◌, ◌≢◌, ℕ, Bool, true, false, cond, List, [], ◌++◌, length, Option, None, is_some, if◌then◌else◌, sym, ap, ◌∙◌, refl, subst}
 use Rattle.pgn_base.specs.Names.{has_name}
-use Rattle.pgn_base.specs.Listening.{Listening}
+use Rattle.pgn_listening.specs.Listening.{Listening}
 use Rattle.pgn_base.specs.declared.note.Note.{Note}
-use Rattle.pgn_base.specs.declared.listen_set.Action.{Action}
+use Rattle.pgn_base.specs.declared.action.Action.{Action}
 use Rattle.pgn_base.specs.declared.command.Command.{Command}
 use Rattle.pgn_base.specs.declared.command.Command.TheVariants as command
 use Rattle.pgn_base.specs.declared.answers.Tag.{Tag}

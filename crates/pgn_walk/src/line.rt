@@ -5,10 +5,11 @@ ghost use Rattle.pgn_model.specs.Walk.{at_act, at_outcome, quitting};
 ghost use Rattle.pgn_walk.specs.Steps.{BeginsFrom, IsGivenBy};
 
 use crate::standing::Standing;
-use pgn_base::{Command, Copied, ListenSet, Tag};
+use pgn_base::{Command, Copied, Tag};
 use pgn_block::{Effect, Kind};
 use pgn_language::Act;
 use pgn_ledger::{Ending, ToShow};
+use pgn_listening::ListenSet;
 use std::alloc::{AllocError, Global};
 use std::mem;
 

@@ -5,10 +5,11 @@ ghost use Rattle.pgn_model.specs.Walk.{is_empty_set, start};
 ghost use Rattle.pgn_walk.specs.Standing.{Holds, Leads, behind, has_no_rows};
 
 use indexmap::IndexMap;
-use pgn_base::{DbOid, FIRST_XID, ListenSet, Seed, Xid};
+use pgn_base::{DbOid, FIRST_XID, Seed, Xid};
 use pgn_block::Block;
 use pgn_due::{Feed, Watch};
 use pgn_ledger::ToShow;
+use pgn_listening::ListenSet;
 use std::alloc::Global;
 use std::mem;
 

@@ -21,10 +21,11 @@ ghost use Rattle.pgn_wordhub.specs.Walks.{StandsAt, IsCell, IsDueEntry, HasDueEn
 use crate::WordHub;
 use crate::parts::{delivery_of, entry_parts};
 use byteorder::{ByteOrder, LittleEndian};
-use pgn_base::{CELL_BYTES, Delivery, Format, ListenSet, Xid};
+use pgn_base::{CELL_BYTES, Delivery, Format, Xid};
 use pgn_hub::PassView;
 use pgn_journal::Fate;
 use pgn_layout::{Pos, advance};
+use pgn_listening::ListenSet;
 use pgn_words::WordPass;
 use std::alloc::{AllocError, Global};
 

@@ -6,9 +6,10 @@ ghost use Rattle.pgn_wordhub.specs.Passes.{IsHubPass, hub_shape};
 
 use crate::WordHub;
 use crate::bells::Bells;
-use pgn_base::{Delivery, Enlisted, Full, ListenSet, Note, Usage, Xid, are_notes};
+use pgn_base::{Delivery, Enlisted, Full, Note, Usage, Xid, are_notes};
 use pgn_hub::{Hub, Roll, SeatSetup, Setup};
 use pgn_journal::interest_of_notes;
+use pgn_listening::ListenSet;
 use pgn_words::{WordPass, WordQueue};
 use std::alloc::{AllocError, Global};
 use std::sync::Wait;

@@ -7,7 +7,7 @@ ghost use Rattle.pgn_words.specs.declared.view.Phase.TheVariants as phases;
 
 use crate::pass::{WordPass, WordQueue};
 use crate::plays::{Channels, LoadInterest, StoreInterest};
-use pgn_base::ListenSet;
+use pgn_listening::ListenSet;
 use std::marker::Brand;
 
 impl WordQueue {

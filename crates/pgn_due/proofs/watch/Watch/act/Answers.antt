@@ -1,7 +1,7 @@
 use Rattle.std.proofs.Common.{◌≡◌, ◌+◌, ◌++◌, ◌∷◌, [], ℕ, List, Option, take, ap, sym, subst, ◌∙◌}
 use Rattle.std.proofs.lemmas.List.{take_all, take_more}
 use Rattle.pgn_base.specs.Channels.{applied}
-use Rattle.pgn_base.specs.declared.listen_set.Action.{Action}
+use Rattle.pgn_base.specs.declared.action.Action.{Action}
 use Rattle.pgn_due.specs.Sent.{sent_before}
 use Rattle.pgn_due.specs.Next.{IsWatch}
 use Rattle.pgn_due.proofs.WatchLaws.{HasActed, acted_first, acted_more, acts_at, journal_of}

@@ -1,7 +1,7 @@
 use Rattle.std.proofs.Common.{◌≡◌, refl, sym, subst}
 use Rattle.std.proofs.lemmas.Result.{on_ok_weaker}
 use Rattle.pgn_base.specs.Channels.{after_action}
-use Rattle.pgn_base.specs.declared.listen_set.Action.{Action}
+use Rattle.pgn_base.specs.declared.action.Action.{Action}
 use Rattle.pgn_due.specs.Next.{Changes}
 use Rattle.pgn_due.proofs.WatchLaws.{listened, unlistened, unlistened_all}
 use Rattle.pgn_due.proofs.watch.Watch.follow.Goals as goal

@@ -1,7 +1,7 @@
 use Rattle.std.proofs.Common.{◌≡◌, ◌≢◌, ◌+◌, ◌<◌, ◌≤◌, ℕ, List, AllPairs, length, drop, ap, ◌∙◌, sym, subst, refl}
 use Rattle.pgn_base.specs.declared.note.Note.{Note}
 use Rattle.pgn_model.specs.declared.item.Item.{Item}
-use Rattle.pgn_base.specs.declared.listen_set.Action.{Action}
+use Rattle.pgn_base.specs.declared.action.Action.{Action}
 use Rattle.pgn_language.specs.Inputs.{note_lines_of}
 use Rattle.pgn_answers.proofs.SavepointLemmas.{firsts-differ}
 use Rattle.pgn_session.specs.declared.session.Session.{Session}

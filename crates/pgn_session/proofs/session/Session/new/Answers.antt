@@ -1,5 +1,5 @@
 use Rattle.std.proofs.Common.{ap}
-use Rattle.pgn_base.specs.Listening.{Listening}
+use Rattle.pgn_listening.specs.Listening.{Listening}
 use Rattle.pgn_session.proofs.OverLaws.{begins-rested}
 use Rattle.pgn_session.proofs.session.Session.new.Goals as goal
 

@@ -1,5 +1,5 @@
 use Rattle.std.proofs.Common.{◌≤◌, ◌+◌, ℕ, List, ◌∷◌, ◌++◌, [], ap, ◌∙◌, sym, subst, refl}
-use Rattle.pgn_base.specs.Listening.{Listening}
+use Rattle.pgn_listening.specs.Listening.{Listening}
 use Rattle.pgn_model.specs.declared.item.Item.{Item}
 use Rattle.pgn_model.specs.declared.item.Item.TheVariants.{Line}
 use Rattle.pgn_language.specs.declared.scenario.Act.TheVariants.{Quit}

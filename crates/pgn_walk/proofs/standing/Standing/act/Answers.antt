@@ -1,5 +1,5 @@
 use Rattle.std.proofs.Common.{List, subst}
-use Rattle.pgn_base.specs.declared.listen_set.Action.{Action}
+use Rattle.pgn_base.specs.declared.action.Action.{Action}
 use Rattle.pgn_walk.specs.Standing.{IsReadyFor}
 use Rattle.pgn_walk.proofs.CommitLaws.{acts_ready}
 use Rattle.pgn_walk.proofs.standing.Standing.act.Goals as goal

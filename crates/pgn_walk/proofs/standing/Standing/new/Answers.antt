@@ -1,5 +1,5 @@
 use Rattle.std.proofs.Common.{ℕ, None, ap, refl, sym, subst}
-use Rattle.pgn_base.specs.Listening.{Listening}
+use Rattle.pgn_listening.specs.Listening.{Listening}
 use Rattle.pgn_due.specs.Next.{IsWatch}
 use Rattle.pgn_walk.proofs.StandingLaws.{holds_first}
 use Rattle.pgn_walk.proofs.standing.Standing.new.Goals as goal

@@ -1,5 +1,5 @@
 use Rattle.std.proofs.Common.{sym, ap, ◌∙◌, subst}
-use Rattle.pgn_base.specs.Listening.{Listening}
+use Rattle.pgn_listening.specs.Listening.{Listening}
 use Rattle.pgn_model.specs.Walk.{quitting}
 use Rattle.pgn_ledger.specs.declared.to_show.ToShow.{ToShow}
 use Rattle.pgn_walk.specs.Steps.{BeginsFrom}
