@@ -1,5 +1,4 @@
 pub mod KeptLemmas
 pub mod CountLaws
 pub mod StepLaws
-pub mod EffectLaws
 pub mod OnlyLaws

@@ -3,4 +3,3 @@ pub mod Counts
 pub mod Views
 pub mod Effects
 pub mod Steps
-pub mod Laws

@@ -19,7 +19,6 @@
 
 mod block;
 mod effect;
-pub mod laws;
 mod pending;
 mod savepoint;
 mod savepoints;

@@ -14,7 +14,6 @@
 
 mod counts;
 mod five_lines;
-pub mod laws;
 mod scenario;
 
 pub use counts::received;

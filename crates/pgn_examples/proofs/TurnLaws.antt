@@ -11,7 +11,7 @@ use Rattle.pgn_messages.specs.declared.asked.Asked.{Asked}
 use Rattle.pgn_messages.specs.declared.asked.Ask.TheVariants.{Query, Settle}
 use Rattle.pgn_messages.specs.Served.{settled_answer, told_answer}
 use Rattle.pgn_messages.specs.Turns.{IsRead, MayBeTold, after_line, heard, idle_state}
-use Rattle.pgn_messages.proofs.ToldLaws.{one_query_is_told, one_settled_is_told}
+use Rattle.pgn_laws.proofs.ToldLaws.{one_query_is_told, one_settled_is_told}
 
 -- numbers that differ, alone and as bytes among signs
 pub apart : (a b : ℕ) → (a == b) ≡ false → a ≡ b → ⊥

@@ -1,13 +1,9 @@
 -- bytes have one list of frames
 pub mod FrameLaws
--- frames that are put together
-pub mod TogetherLaws
 -- what comes next, as it is read
 pub mod ArrivalLaws
 -- signs have one list of asks
 pub mod AskLaws
--- the numbers of what is asked
-pub mod NumberLaws
 -- messages with more behind them
 pub mod MoreLaws
 -- the signs of a seat, in frames that grow

@@ -1,7 +1,7 @@
 //! What comes in frames from the clients of all seats, and what each seat is asked.
 //!
 //! `FramesAre` in `specs/Frames` takes an input apart into frames, and `signs_of` gives what of them is a seat's, sign by sign: the bytes of
-//! its clients, and their ends. `SeatAsks` in `specs/Clients` says what a seat is asked by its signs. `laws` has that each input is taken
+//! its clients, and their ends. `SeatAsks` in `specs/Clients` says what a seat is asked by its signs. `pgn_laws` has that each input is taken
 //! apart in one way. `next_frame` reads one frame after another from any source.
 #![tactic(auto)]
 
@@ -9,7 +9,6 @@ mod caller;
 mod counts;
 mod frame_fault;
 mod framing;
-pub mod laws;
 mod message;
 mod reading;
 mod taking;

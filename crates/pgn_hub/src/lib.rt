@@ -7,7 +7,7 @@
 //! `publish` and `usage` may wait for the lock, and `rest` sleeps until a flag is raised or the time is over. The others wait for
 //! nobody. Only `open` and `scan` take memory.
 //!
-//! Laws of what the calls say stand on public functions with an empty body, in `laws`.
+//! Laws of what the calls say stand in `pgn_laws`, in `hub`.
 //!
 //! A caller: a session that is no listener becomes one, and reads.
 //!
@@ -34,7 +34,6 @@
 
 mod hub;
 mod known;
-pub mod laws;
 mod pass_view;
 mod roll;
 mod setup;

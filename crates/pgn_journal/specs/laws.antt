@@ -1,6 +1,3 @@
--- Laws over the definitions.
-pub mod Begins
-pub mod Due
 pub mod Interest
 pub mod Bytes
 pub mod Packing

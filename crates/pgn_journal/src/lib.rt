@@ -3,7 +3,7 @@
 //!
 //! The journal is the list of finished transactions, and grows at its end; the transaction numbered x stands at x - 3.
 //!
-//! Laws over these definitions stand on public functions with an empty body, in `laws`.
+//! Laws over these definitions stand in `pgn_laws`, in `journal`.
 //!
 //! A caller makes a transaction, and says by a definition what it made:
 //!
@@ -28,7 +28,6 @@
 #![tactic(auto)]
 
 mod channel_bits;
-pub mod laws;
 mod tx;
 
 pub use channel_bits::interest_of_notes;

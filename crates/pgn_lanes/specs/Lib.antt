@@ -1,4 +1,3 @@
 pub mod Least
 pub mod Behind
 pub mod Zero
-pub mod Laws

@@ -3,10 +3,9 @@
 //! A line of SQL is cut into tokens, and a table of commands says what they mean (`ReadsAs`). An input is cut into lines, and
 //! has one reading: a scenario, or its one fault (`ReadsAsScenario`).
 //!
-//! Laws over these definitions stand on public functions with an empty body, in `laws`.
+//! Laws over these definitions stand in `pgn_laws`, in `language`.
 #![tactic(auto)]
 
-pub mod laws;
 mod line_text;
 mod scenario;
 

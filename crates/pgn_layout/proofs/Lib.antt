@@ -3,5 +3,4 @@ pub mod PlanLaws
 pub mod BatchLaws
 pub mod FillerLaws
 pub mod PlacingLaws
-pub mod OneBatchLaws
 pub mod StatusLaws

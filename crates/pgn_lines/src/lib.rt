@@ -13,7 +13,6 @@ mod answers;
 mod entries;
 mod events;
 mod fields;
-pub mod laws;
 mod line;
 mod numbers;
 mod quoted;

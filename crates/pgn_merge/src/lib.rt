@@ -1,8 +1,8 @@
 //! The journal, given back from the traces of all sessions.
 //!
 //! Each trace shows its session's finished transactions with their numbers. `merge` puts each into its place by its number, and
-//! so gives back the journal that the traces show. Its notifications are not copied: they move there, and leave the traces bare. The
-//! laws say that the traces of a legal run show its journal, and that an output shows the same of bare ones.
+//! so gives back the journal that the traces show. Its notifications are not copied: they move there, and leave the traces bare. In
+//! `pgn_laws` stands that the traces of a legal run show its journal, and that an output shows the same of bare ones.
 //!
 //! A caller that has the traces of a legal run gets its journal:
 //!
@@ -18,7 +18,6 @@
 //! ```
 #![tactic(auto)]
 
-pub mod laws;
 mod merging;
 
 pub use merging::merge;

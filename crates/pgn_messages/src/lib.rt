@@ -15,8 +15,8 @@
 //! where reads stand is all that the cut leaves open. `tell_answer`, `tell_settled`, `tell_discard`, `tell_reads` and `tell_parting` give
 //! the bytes of one turn.
 //!
-//! Laws over the definitions stand on public functions with an empty body. In `laws`: messages grow by an answer a line, and a line
-//! that is put in behind those that have begun changes none. In `turn_laws`: whoever adds turn after turn walks over the trace, and
+//! Laws over the definitions stand in `pgn_laws`. In `messages`: messages grow by an answer a line, and a line
+//! that is put in behind those that have begun changes none. In `turns`: whoever adds turn after turn walks over the trace, and
 //! knows where a teller stands: the state of the block and the client's settings.
 #![tactic(auto)]
 
@@ -26,7 +26,6 @@ mod asked;
 mod bytes;
 mod cutting;
 mod digits;
-pub mod laws;
 mod lines;
 mod saying;
 mod served;
@@ -36,7 +35,6 @@ mod settling;
 mod statuses;
 mod telling;
 mod texts;
-pub mod turn_laws;
 mod wordings;
 
 pub use answer::answer_query;

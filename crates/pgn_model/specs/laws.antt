@@ -1,5 +1,3 @@
--- Laws over the definitions.
-pub mod Walk
 pub mod Growing
 pub mod NextLine
 pub mod Text

@@ -4,11 +4,10 @@
 //! it. `Legal` says of a journal and all traces together that they are a run of a scenario, and `text` is the output that shows
 //! them. What a line reads as, what a command is answered, and the journal have crates of their own below.
 //!
-//! Laws over these definitions stand on public functions with an empty body, in `laws`.
+//! Laws over these definitions stand in `pgn_laws`, in `model`.
 #![tactic(auto)]
 
 mod item;
-pub mod laws;
 mod trace;
 
 pub use item::{Item, Items};

@@ -11,7 +11,7 @@ use Rattle.pgn_examples.proofs.PackingSteps.{length-letters, length-longest, put
 use Rattle.pgn_layout.specs.declared.batch.Batch.{Batch}
 use Rattle.pgn_layout.specs.Batches.{Runs, IsPlanned, Whole, Filled, AreBatches, fillers_from, IsPlaced, AfterNotes, AfterFiller}
 use Rattle.pgn_part_examples.specs.Layout.{to_the_edge, over_the_edge, first_batch, last_batch, to_the_edge_two, over_the_edge_two, first_batch_two, last_batch_two}
-use Rattle.pgn_layout.proofs.OneBatchLaws.{one_batch}
+use Rattle.pgn_laws.proofs.OneBatchLaws.{one_batch}
 use Rattle.pgn_layout.proofs.PlacingLaws.{placing_begins}
 
 -- whether an entry fits, by the number of letters

@@ -1,7 +1,7 @@
 //! What a client of PostgreSQL's protocol 3.0 sends after start-up, and the queries that it asks.
 //!
 //! The messages are a Query and a Terminate. `QueriesAre` in `specs/Queries` says which queries a client's bytes have, each as a line of
-//! a script with its command, and by which fault they end, if by one; `laws` has that these are the only ones. `Queries` reads them one
+//! a script with its command, and by which fault they end, if by one; `pgn_laws` has that these are the only ones. `Queries` reads them one
 //! at a time from any source, and the layer above may rely on it that it gives exactly these, however the reads cut the bytes. It takes
 //! no byte behind a query before it is asked for the next, so that a client which waits for an answer is not waited for.
 //!
@@ -19,7 +19,6 @@
 
 mod coming;
 mod full_read;
-pub mod laws;
 mod limits;
 mod message;
 mod reader;

@@ -1,6 +1,3 @@
-//! How an output text is read, which of its lines are to blame where it is that of no legal run, and laws of both.
-//!
-//! All stand on public functions with an empty body, in `laws`.
+//! How an output text is read, and which of its lines are to blame where it is that of no legal run: definitions. Laws of both stand
+//! in `pgn_laws`, in `reading`, and their proofs here, since whoever judges an output needs them.
 #![tactic(auto)]
-
-pub mod laws;

@@ -2,7 +2,6 @@
 #![tactic(auto)]
 
 mod complaint;
-mod laws;
 mod limits;
 mod mode;
 mod request;
@@ -13,7 +12,6 @@ mod short_text;
 mod verdict;
 
 pub use complaint::{Cause, Complaint, Wording};
-pub use laws::one_request;
 pub use limits::TOKENS_MAX;
 pub use mode::Mode;
 pub use request::Request;

@@ -15,16 +15,16 @@ mod journal;
 mod line;
 mod line_cursor;
 mod note;
-mod one_item;
 mod out;
 mod pieces;
 mod queue_line;
 mod refusal;
 mod section;
+mod section_lines;
 mod span;
 mod text;
 
 pub use line_cursor::LineCursor;
-pub use one_item::{lines_of, write_item};
 pub use out::Out;
+pub use section_lines::lines_of;
 pub use text::render;

@@ -28,5 +28,3 @@ pub mod NoteKept
 pub mod TakenLaws
 pub mod TakenKept
 pub mod CloseLaws
-pub mod RuleLaws
-pub mod WayLaws

@@ -12,4 +12,3 @@ pub mod Waking
 pub mod Interests
 pub mod Passes
 pub mod Closing
-pub mod Laws

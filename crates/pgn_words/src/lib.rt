@@ -6,7 +6,7 @@
 //! and what the caller learns.
 //!
 //! `Lawful` in `specs/Rule.antt` is the rule. It holds of the words that `open` makes, and each step keeps it, whatever the other
-//! passes do in between. `laws::rule` says what follows from it. A writer, once it has the lock:
+//! passes do in between. `words::rule` of `pgn_laws` says what follows from it. A writer, once it has the lock:
 //!
 //!     let head = queue.load_head(pass);
 //!     let stop = queue.load_stop(pass);
@@ -27,7 +27,6 @@ mod cells;
 mod closing;
 mod flags;
 mod interests;
-pub mod laws;
 mod listening;
 mod lock;
 mod looks;

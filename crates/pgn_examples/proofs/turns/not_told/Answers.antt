@@ -5,7 +5,7 @@ use Rattle.pgn_model.specs.declared.item.Item.TheVariants.{Enlist, Publish, Repl
 use Rattle.pgn_messages.specs.declared.asked.Parting.TheVariants.{Refused}
 use Rattle.pgn_examples.specs.Turns.{call, listen, listen_bytes, other_bytes, rowless_bytes, sent, sent_by}
 use Rattle.pgn_examples.proofs.TurnLaws.{answer-alone, answer-and-read, apart, bytes_apart, end_apart}
-use Rattle.pgn_messages.proofs.ToldLaws.{one_end_is_told}
+use Rattle.pgn_laws.proofs.ToldLaws.{one_end_is_told}
 use Rattle.pgn_examples.proofs.turns.not_told.Goals as goal
 
 -- the first sign

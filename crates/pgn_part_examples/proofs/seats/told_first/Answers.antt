@@ -4,7 +4,7 @@ use Rattle.std.proofs.lemmas.List.Elements.{All-nil}
 use Rattle.pgn_outlet.specs.Passes.{knows}
 use Rattle.pgn_messages.specs.Sayings.{all_told}
 use Rattle.pgn_messages.specs.Turns.{IsPlain, asks_of, heard, items_of, said}
-use Rattle.pgn_messages.proofs.ToldLaws.{reads_are_heard}
+use Rattle.pgn_laws.proofs.ToldLaws.{reads_are_heard}
 use Rattle.pgn_seats.specs.Serving.{taken}
 use Rattle.pgn_part_examples.proofs.SeatLaws.{no-ask, no-end}
 use Rattle.pgn_part_examples.proofs.seats.told_first.Goals as goal

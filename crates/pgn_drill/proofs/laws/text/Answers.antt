@@ -1,5 +1,0 @@
-use Rattle.pgn_drill.proofs.ReadLaws.{drill-reads}
-use Rattle.pgn_drill.proofs.laws.text.Goals as goal
-
-pub returns : goal.returns
-returns c = drill-reads

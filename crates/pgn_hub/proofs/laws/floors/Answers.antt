@@ -1,9 +1,0 @@
-use Rattle.pgn_hub.proofs.CallLaws.{holders-are_named}
-use Rattle.pgn_hub.proofs.FloorLaws.{own-floors}
-use Rattle.pgn_hub.proofs.laws.floors.Goals as goal
-
-pub returns-clause-named : goal.returns-clause-named
-returns-clause-named c = holders-are_named
-
-pub returns-clause-own : goal.returns-clause-own
-returns-clause-own c = own-floors

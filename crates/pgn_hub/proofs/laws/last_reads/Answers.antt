@@ -1,5 +1,0 @@
-use Rattle.pgn_hub.proofs.GatheredLaws.{last-reads}
-use Rattle.pgn_hub.proofs.laws.last_reads.Goals as goal
-
-pub returns : goal.returns
-returns c = last-reads

@@ -1,5 +1,0 @@
-use Rattle.pgn_hub.proofs.WithinLaws.{calls-keep_within}
-use Rattle.pgn_hub.proofs.laws.within.Goals as goal
-
-pub returns : goal.returns
-returns c = calls-keep_within

@@ -1,5 +1,0 @@
-use Rattle.pgn_model.proofs.TextLines.{text-has_lines}
-use Rattle.pgn_model.proofs.laws.text.Goals as goal
-
-pub returns : goal.returns
-returns c = record { has_lines = text-has_lines }

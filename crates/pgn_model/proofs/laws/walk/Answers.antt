@@ -1,5 +1,0 @@
-use Rattle.pgn_model.proofs.WalkLaws.{Stands-push}
-use Rattle.pgn_model.proofs.laws.walk.Goals as goal
-
-pub returns-clause-pushes : goal.returns-clause-pushes
-returns-clause-pushes c = Stands-push
