@@ -17,7 +17,7 @@ use Rattle.pgn_model.specs.declared.item.Item.TheVariants as item
 use Rattle.pgn_model.specs.Walk.{State, Terms}
 use Rattle.pgn_model.specs.Trace.{IsFreshAt, IsFreshBetween, IsReadUp, IsUpToDate, next_reads_first}
 use Rattle.pgn_walk.specs.declared.standing.Standing.{Standing}
-use Rattle.pgn_evidence.specs.Evidence.{begins_line}
+use Rattle.pgn_walk.specs.Evidence.{begins_line}
 use Rattle.pgn_walk.specs.Standing.{Holds}
 use Rattle.pgn_check.specs.Fresh.{Asks, HasReadFirst}
 

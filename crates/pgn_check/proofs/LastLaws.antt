@@ -9,10 +9,10 @@ use Rattle.pgn_language.specs.declared.scenario.Section.{Section}
 use Rattle.pgn_model.specs.Trace.{IsEnd, IsUpToDate}
 use Rattle.pgn_model.specs.Walk.{State, Terms}
 use Rattle.pgn_reading.specs.Blame.{IsAtRest}
-use Rattle.pgn_evidence.specs.declared.basis.Basis.{Basis}
+use Rattle.pgn_walk.specs.declared.basis.Basis.{Basis}
 use Rattle.pgn_walk.specs.declared.standing.Standing.{Standing}
 use Rattle.pgn_ledger.specs.declared.to_show.ToShow.TheVariants as show
-use Rattle.pgn_evidence.specs.Basis.{journal_of}
+use Rattle.pgn_walk.specs.Basis.{journal_of}
 use Rattle.pgn_check.specs.Fresh.{Asks}
 use Rattle.pgn_ledger.specs.ToShow.{owed_of}
 use Rattle.pgn_walk.specs.Standing.{Holds}

@@ -6,3 +6,6 @@ pub mod FreshLaws
 pub mod WalkLaws
 pub mod LastLaws
 pub mod LoopLaws
+pub mod FineLaws
+pub mod LegalLaws
+pub mod UnblamedLaws

@@ -13,10 +13,10 @@ use Rattle.pgn_model.specs.Legal.{finished_xids}
 use Rattle.pgn_model.specs.Text.{end_line, item_lines, trace_lines}
 use Rattle.pgn_reading.specs.Blame.{last_line}
 use Rattle.pgn_reading.specs.Form.{IsReadTrace}
-use Rattle.pgn_evidence.specs.declared.basis.Basis.{Basis}
+use Rattle.pgn_walk.specs.declared.basis.Basis.{Basis}
 use Rattle.pgn_check.specs.declared.walker.Walker.{Walker}
 use Rattle.pgn_walk.specs.declared.standing.Standing.{Standing}
-use Rattle.pgn_evidence.specs.Basis.{Tells}
+use Rattle.pgn_walk.specs.Basis.{Tells}
 use Rattle.pgn_check.specs.Walked.{HasCome, IsAround, IsAtEnd}
 
 -- an item has as many lines whatever the script is

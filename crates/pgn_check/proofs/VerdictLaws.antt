@@ -15,8 +15,8 @@ use Rattle.pgn_reading.specs.Blame.{IsLeastBlamed, IsLegalText}
 use Rattle.pgn_reading.specs.WholeLaws.{IsWalked}
 use Rattle.pgn_reading.proofs.BlameLaws.{least-in_traces}
 use Rattle.pgn_reading.proofs.WholeLaws.{walked-is_legal_text}
-use Rattle.pgn_blame.specs.Laws.{IsHeld}
-use Rattle.pgn_blame.proofs.UnblamedLaws.{legal-is_unblamed}
+use Rattle.pgn_check.specs.Laws.{IsHeld}
+use Rattle.pgn_check.proofs.UnblamedLaws.{legal-is_unblamed}
 use Rattle.pgn_ledger.specs.Places.{notes_in}
 use Rattle.pgn_check.specs.Entries.{IsBlamedFirst, IsReadSoFar, lines_in}
 use Rattle.pgn_check.specs.Sections.{IsLeastIn}

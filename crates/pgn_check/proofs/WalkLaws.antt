@@ -14,11 +14,11 @@ use Rattle.pgn_model.specs.Trace.{IsFreshAt, IsUpToDate}
 use Rattle.pgn_reading.specs.Completed.{ready, stepped, walked, with_owed}
 use Rattle.pgn_reading.specs.Blame.{BlamesTrace, Comes, IsAtRest, IsBorneOut, IsNextOwn, IsWhole, Refused, LeftOut, NotNext, Unfounded, LeftOutLast, Unfinished, last_line, line_after}
 use Rattle.pgn_reading.specs.WholeLaws.{IsWalked}
-use Rattle.pgn_evidence.specs.declared.basis.Basis.{Basis}
+use Rattle.pgn_walk.specs.declared.basis.Basis.{Basis}
 use Rattle.pgn_walk.specs.declared.standing.Standing.{Standing}
 use Rattle.pgn_check.specs.declared.walker.Walker.{Walker}
 use Rattle.pgn_check.specs.Fresh.{Asks}
-use Rattle.pgn_evidence.specs.Basis.{journal_of, terms_of}
+use Rattle.pgn_walk.specs.Basis.{journal_of, terms_of}
 use Rattle.pgn_walk.specs.Standing.{Holds, Leads}
 use Rattle.pgn_walk.specs.Steps.{Moves}
 use Rattle.pgn_check.specs.Walked.{AsksLast, HasCome, IsAround, IsAtEnd, IsFreshLast, IsJudged, IsLeastOf, IsMissingNone, IsTaken}

@@ -3,3 +3,5 @@ pub mod Sections
 pub mod Verdicts
 pub mod Fresh
 pub mod Walked
+-- laws of what is seen of a legal run
+pub mod Laws

@@ -15,10 +15,10 @@ use Rattle.pgn_reading.specs.Form.{IsReadTrace}
 use Rattle.pgn_reading.specs.Blame.{BlamesTrace, Comes, IsAtRest, IsBorneOut, IsNextOwn, last_line}
 use Rattle.pgn_reading.specs.BlameLaws.{AreSpotless}
 use Rattle.pgn_reading.specs.WholeLaws.{IsWalked}
-use Rattle.pgn_evidence.specs.declared.basis.Basis.{Basis}
+use Rattle.pgn_walk.specs.declared.basis.Basis.{Basis}
 use Rattle.pgn_walk.specs.declared.standing.Standing.{Standing}
 use Rattle.pgn_check.specs.declared.walker.Walker.{Walker}
-use Rattle.pgn_evidence.specs.Basis.{Tells, journal_of, terms_of}
+use Rattle.pgn_walk.specs.Basis.{Tells, journal_of, terms_of}
 use Rattle.pgn_walk.specs.Standing.{Holds}
 
 -- an item is allowed, the session's next, and borne out; then the session stands behind it. Otherwise it is told which of the three it is not

@@ -13,10 +13,10 @@ use crate::held::are_held;
 use crate::journal::read_journal;
 use crate::sections::{Grounds, walk_all};
 use pgn_base::{Format, Seed};
-use pgn_evidence::Evidence;
 use pgn_form::Reading;
 use pgn_language::Scenario;
 use pgn_ledger::Ledger;
+use pgn_walk::Evidence;
 use std::alloc::{AllocError, Global};
 
 /// Whether a text is the output of a legal run of a scenario.

@@ -5,14 +5,13 @@ ghost use Rattle.pgn_journal.specs.Journal.{entries_between};
 ghost use Rattle.pgn_journal.specs.Due.{is_due_to};
 ghost use Rattle.pgn_language.specs.declared.scenario.Section.{Section};
 ghost use Rattle.pgn_model.specs.Trace.{IsFreshAt, IsReadUp, IsUpToDate, next_reads_first, reads_first};
-ghost use Rattle.pgn_evidence.specs.Basis.{journal_of, terms_of};
+ghost use Rattle.pgn_walk.specs.Basis.{journal_of, terms_of};
 ghost use Rattle.pgn_check.specs.Fresh.{Asks, HasReadFirst};
 
 use pgn_base::Command;
-use pgn_evidence::{Basis, begins_line};
 use pgn_language::{Act, Section};
 use pgn_model::Item;
-use pgn_walk::Standing;
+use pgn_walk::{Basis, Standing, begins_line};
 
 /// No read was left out before an item.
 pub fn is_fresh_at(at: &Standing, basis: &Basis, item: &Item) -> bool

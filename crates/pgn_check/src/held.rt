@@ -1,5 +1,5 @@
 ghost use Rattle.std.specs.Prelude.{All};
-ghost use Rattle.pgn_blame.specs.Laws.{IsHeldAct, IsHeldCommand};
+ghost use Rattle.pgn_check.specs.Laws.{IsHeldAct, IsHeldCommand};
 
 use pgn_base::Command;
 use pgn_language::{Act, ScriptLine, Section};

@@ -3,14 +3,13 @@ ghost use Rattle.pgn_language.specs.declared.scenario.Section.{Section};
 ghost use Rattle.pgn_model.specs.declared.item.Item.{Item};
 ghost use Rattle.pgn_model.specs.declared.trace.Trace.{Trace};
 ghost use Rattle.pgn_model.specs.Legal.{finished_xids};
-ghost use Rattle.pgn_evidence.specs.Basis.{Tells, journal_of, terms_of};
+ghost use Rattle.pgn_walk.specs.Basis.{Tells, journal_of, terms_of};
 ghost use Rattle.pgn_walk.specs.Steps.{Moves};
 ghost use Rattle.pgn_check.specs.Walked.{IsJudged};
 
-use pgn_evidence::{Basis, is_borne_out, is_next_own};
 use pgn_ledger::are_all;
 use pgn_model::Item;
-use pgn_walk::{Span, Standing};
+use pgn_walk::{Basis, Span, Standing, is_borne_out, is_next_own};
 use std::alloc::{AllocError, Global};
 
 /// An item is allowed, the session's next, and borne out; then the session stands behind it.

@@ -2,16 +2,15 @@ ghost use Rattle.std.specs.Prelude.{◌≡◌, ◌↔◌, ◌≤◌, ◌||◌, t
 ghost use Rattle.pgn_journal.specs.Journal.{next_xid};
 ghost use Rattle.pgn_journal.specs.declared.tx.Tx.{Tx};
 ghost use Rattle.pgn_model.specs.Trace.{IsEnd};
-ghost use Rattle.pgn_evidence.specs.Basis.{journal_of, terms_of};
+ghost use Rattle.pgn_walk.specs.Basis.{journal_of, terms_of};
 ghost use Rattle.pgn_check.specs.Fresh.{Asks};
 ghost use Rattle.pgn_check.specs.Walked.{AsksLast, IsMissingNone};
 
 use crate::fresh::is_up_to_date;
 use pgn_base::Xid;
-use pgn_evidence::Basis;
 use pgn_language::Section;
 use pgn_ledger::are_all;
-use pgn_walk::Standing;
+use pgn_walk::{Basis, Standing};
 
 // The end of a trace.
 

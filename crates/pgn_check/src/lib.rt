@@ -2,8 +2,8 @@
 //!
 //! `check_output` answers it. It reads the text by `pgn_form`, asks each transaction of its journal (`read_journal`: finished, with
 //! notifications that are all different, and some section's), and walks along each section: `pgn_walk` judges an item by what its
-//! session has done so far, and `pgn_evidence` by what the journal and the other sections say. Where the text is not that of a legal
-//! run it gives the number of the first line that is to blame.
+//! session has done so far, and by what the journal and the other sections say. Where the text is not that of a legal run it gives
+//! the number of the first line that is to blame. `laws` has that of a legal run's output no line is.
 #![tactic(auto)]
 
 mod check;
@@ -13,6 +13,7 @@ mod held;
 mod journal;
 mod judge;
 mod last;
+pub mod laws;
 mod sections;
 mod walker;
 

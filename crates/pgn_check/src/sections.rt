@@ -1,14 +1,14 @@
 ghost use Rattle.std.specs.Prelude.{◌+◌, ◌^◌, ◌<◌, length, IfOk};
 ghost use Rattle.pgn_reading.specs.Form.{EachSection, IsReadTrace};
 ghost use Rattle.pgn_model.specs.Text.{traces_lines};
-ghost use Rattle.pgn_evidence.specs.Evidence.{IsEvidence};
+ghost use Rattle.pgn_walk.specs.Evidence.{IsEvidence};
 ghost use Rattle.pgn_check.specs.Sections.{IsFirstFrom, settings_on};
 
 use crate::walker::{lines_of_trace, walk};
-use pgn_evidence::{Basis, Evidence};
 use pgn_language::Section;
 use pgn_ledger::Ledger;
 use pgn_model::Trace;
+use pgn_walk::{Basis, Evidence};
 use std::alloc::{AllocError, Global};
 
 /// What all sections are judged by: what the command line sets, the journal, and what all traces show.

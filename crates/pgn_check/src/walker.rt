@@ -8,9 +8,8 @@ ghost use Rattle.pgn_check.specs.Walked.{CountsOn, HasCome, IsAtEnd, IsFirstIn, 
 use crate::fresh::is_fresh_at;
 use crate::judge::takes;
 use crate::last::{is_fresh_last, is_whole};
-use pgn_evidence::{Basis, finished_in, lines_of};
 use pgn_model::{Item, Trace};
-use pgn_walk::Standing;
+use pgn_walk::{Basis, Standing, finished_in, lines_of};
 use std::alloc::{AllocError, Global};
 
 /// How far a walk has come: where its session stands, how many transactions the items so far show as finished, and the number of the

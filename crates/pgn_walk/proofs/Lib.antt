@@ -7,3 +7,6 @@ pub mod AnswerLaws
 pub mod FlagLaws
 pub mod ReadLaws
 pub mod SameLaws
+pub mod PairLaws
+pub mod EvidenceLaws
+pub mod BorneLaws

@@ -2,7 +2,7 @@ use Rattle.std.proofs.Common.{◌+◌, List, refl, subst, arith}
 use Rattle.std.specs.Prelude.{All}
 use Rattle.pgn_language.specs.declared.scenario.Section.{Section}
 use Rattle.pgn_model.specs.Walk.{Settings}
-use Rattle.pgn_blame.specs.Laws.{IsHeld, IsHeldAct}
+use Rattle.pgn_check.specs.Laws.{IsHeld, IsHeldAct}
 use Rattle.pgn_check.specs.Entries.{lines_in}
 use Rattle.pgn_check.proofs.VerdictLaws.{few_lines, few_notes, illegal_first, illegal_walk, legal_walk, lines_fit_all}
 use Rattle.pgn_check.proofs.check.check_output.Goals as goal

@@ -1,5 +1,5 @@
 use Rattle.std.proofs.Common.{sym, ◌∙◌}
-use Rattle.pgn_evidence.specs.Basis.{journal_of, terms_of}
+use Rattle.pgn_walk.specs.Basis.{journal_of, terms_of}
 use Rattle.pgn_check.proofs.FreshLaws.{fresh_by, fresh_late, fresh_no_line, fresh_open}
 use Rattle.pgn_check.proofs.fresh.is_fresh_at.Goals as goal
 

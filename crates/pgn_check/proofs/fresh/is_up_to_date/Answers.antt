@@ -1,5 +1,5 @@
 use Rattle.std.proofs.Common.{◌≡◌, ◌↔◌, ℕ, true, subst}
-use Rattle.pgn_evidence.specs.Basis.{journal_of, terms_of}
+use Rattle.pgn_walk.specs.Basis.{journal_of, terms_of}
 use Rattle.pgn_check.proofs.FreshLaws.{IsClose, up_by, up_far}
 use Rattle.pgn_check.proofs.fresh.is_up_to_date.Goals as goal
 

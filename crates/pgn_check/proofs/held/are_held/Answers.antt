@@ -4,7 +4,7 @@ use Rattle.std.proofs.lemmas.List.{take_all, take_more}
 use Rattle.std.proofs.lemmas.List.Elements.{All-push}
 use Rattle.pgn_language.specs.declared.scenario.ScriptLine.{ScriptLine}
 use Rattle.pgn_language.specs.declared.scenario.Section.{Section}
-use Rattle.pgn_blame.specs.Laws.{IsHeldAct}
+use Rattle.pgn_check.specs.Laws.{IsHeldAct}
 use Rattle.pgn_check.proofs.held.are_held.Goals as goal
 
 abbrev AreHeld : List ScriptLine → Type 0

@@ -3,7 +3,7 @@ use Rattle.std.specs.Prelude.{All}
 use Rattle.std.proofs.lemmas.List.{take_all, take_more}
 use Rattle.std.proofs.lemmas.List.Elements.{All-push}
 use Rattle.pgn_language.specs.declared.scenario.ScriptLine.{ScriptLine}
-use Rattle.pgn_blame.specs.Laws.{IsHeldAct}
+use Rattle.pgn_check.specs.Laws.{IsHeldAct}
 use Rattle.pgn_check.proofs.held.lines_are_held.Goals as goal
 
 abbrev Held : ScriptLine → Type 0

@@ -1,6 +1,6 @@
 use Rattle.std.proofs.Common.{take}
 use Rattle.std.specs.Prelude.{All}
-use Rattle.pgn_blame.specs.Laws.{IsHeldAct}
+use Rattle.pgn_check.specs.Laws.{IsHeldAct}
 use Rattle.pgn_check.proofs.held.lines_are_held.Given as goal
 
 abbrev pub invariant-loop-line : goal.invariant-loop-line

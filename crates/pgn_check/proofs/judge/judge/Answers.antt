@@ -2,7 +2,7 @@
 use Rattle.std.proofs.Common.{sym, subst}
 use Rattle.std.proofs.lemmas.Result.{IfOk-weaker}
 use Rattle.pgn_model.specs.declared.item.Item.{Item}
-use Rattle.pgn_evidence.specs.Basis.{journal_of, settings_of, terms_of}
+use Rattle.pgn_walk.specs.Basis.{journal_of, settings_of, terms_of}
 use Rattle.pgn_walk.specs.Steps.{Moves}
 use Rattle.pgn_check.proofs.judge.judge.Goals as goal
 

@@ -1,5 +1,5 @@
 use Rattle.std.proofs.Common.{Bool, refl, sym, subst}
-use Rattle.pgn_evidence.specs.Basis.{journal_of, terms_of}
+use Rattle.pgn_walk.specs.Basis.{journal_of, terms_of}
 use Rattle.pgn_check.specs.Walked.{IsJudged}
 use Rattle.pgn_check.proofs.WalkLaws.{judged_by}
 use Rattle.pgn_check.proofs.judge.takes.Goals as goal

@@ -1,4 +1,4 @@
-use Rattle.pgn_evidence.specs.Basis.{journal_of, terms_of}
+use Rattle.pgn_walk.specs.Basis.{journal_of, terms_of}
 use Rattle.pgn_check.proofs.LastLaws.{last_off}
 use Rattle.pgn_check.proofs.last.is_fresh_last.Goals as goal
 

@@ -1,6 +1,6 @@
 use Rattle.std.proofs.Common.{◌≡◌, ◌↔◌, ◌≤◌, true, length, nat_le, arith}
 use Rattle.pgn_journal.specs.Journal.{xids_of}
-use Rattle.pgn_evidence.specs.Basis.{journal_of}
+use Rattle.pgn_walk.specs.Basis.{journal_of}
 use Rattle.pgn_check.proofs.LastLaws.{whole_by}
 use Rattle.pgn_walk.proofs.ReadLaws.{is_le, le_is}
 use Rattle.pgn_check.proofs.last.is_whole.Goals as goal

@@ -4,7 +4,7 @@ use Rattle.pgn_model.specs.declared.trace.Trace.{Trace}
 use Rattle.pgn_model.specs.Legal.{finished_xids}
 use Rattle.pgn_reading.specs.Form.{IsReadTrace}
 use Rattle.pgn_reading.specs.Blame.{last_line}
-use Rattle.pgn_evidence.specs.Basis.{Tells}
+use Rattle.pgn_walk.specs.Basis.{Tells}
 use Rattle.pgn_check.specs.Walked.{HasCome}
 use Rattle.pgn_check.proofs.walker.Walker.go.Given as goal
 

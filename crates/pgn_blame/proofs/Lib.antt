@@ -1,3 +1,0 @@
-pub mod FineLaws
-pub mod LegalLaws
-pub mod UnblamedLaws

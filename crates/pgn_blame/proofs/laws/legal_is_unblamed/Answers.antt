@@ -1,5 +1,0 @@
-use Rattle.pgn_blame.proofs.UnblamedLaws.{legal-is_unblamed}
-use Rattle.pgn_blame.proofs.laws.legal_is_unblamed.Goals as goal
-
-pub returns : goal.returns
-returns c = legal-is_unblamed

@@ -1,2 +1,0 @@
--- laws of what is seen of a legal run
-pub mod Laws

@@ -1,3 +1,0 @@
-pub mod PairLaws
-pub mod EvidenceLaws
-pub mod BorneLaws
