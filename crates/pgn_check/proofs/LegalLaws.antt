@@ -32,8 +32,8 @@ use Rattle.pgn_model.specs.Walk.{Settings, Terms, State, Owed, Ending, Replied, 
 use Rattle.pgn_model.specs.Trace.{TraceOk}
 use Rattle.pgn_model.specs.Legal.{EachTrace, finished_xids, names_section, IsShownWithin, IsFullThere, End, ends, StoodAt, Legal}
 use Rattle.pgn_model.specs.Text.{joined, note_line, entry_lines, entries_lines, journal_lines, channel_line, item_lines, end_line, trace_lines, traces_lines, text_lines, text}
-use Rattle.pgn_merge.specs.Shown.{IsShownIn, ShowsJournal}
-use Rattle.pgn_merge.proofs.ShownLaws.{legal-shows_journal}
+use Rattle.pgn_reading.specs.Merged.{IsShownIn, ShowsJournal}
+use Rattle.pgn_reading.proofs.MergedLaws.{legal-shows_journal}
 use Rattle.pgn_reading.specs.Completed.{seen_of, seen}
 use Rattle.pgn_reading.specs.Form.{IsXid, IsSession, IsLineName, IsLineNote, IsLineDelivery, IsReadItem, begins_rows, AreApart, lines_left, IsNextLine, IsReadTrace, database_of, IsReadQueued, IsReadTx, EachSection, IsReadable}
 use Rattle.pgn_reading.specs.Shown.{named_shown, found_shown}

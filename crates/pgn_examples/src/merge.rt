@@ -3,7 +3,7 @@ ghost use Rattle.pgn_journal.specs.declared.tx.Tx.{Tx};
 ghost use Rattle.pgn_language.specs.declared.scenario.Scenario.{Scenario};
 ghost use Rattle.pgn_model.specs.declared.item.Item.TheVariants.{Publish, QueueFull, Read};
 ghost use Rattle.pgn_model.specs.Walk.{Settings};
-ghost use Rattle.pgn_merge.specs.Bare.{IsLegalBare, bare, bare_item};
+ghost use Rattle.pgn_reading.specs.Bare.{IsLegalBare, bare, bare_item};
 ghost use Rattle.pgn_examples.specs.Merge.{full_4, note_a, note_b, of_session, one_section, received};
 
 /// Of an item that shows a transaction as finished its notifications go, and of no other item anything.

@@ -1,4 +1,4 @@
-ghost use Rattle.pgn_merge.specs.Laws.{LegalShowsJournal, OthersAreBare, BareHasNoNote, LegalIsLegalBare, BareHasSameLines, BareHasSameText, BareHasSameBrief};
+ghost use Rattle.pgn_reading.specs.Laws.{LegalShowsJournal, OthersAreBare, BareHasNoNote, LegalIsLegalBare, BareHasSameLines, BareHasSameText, BareHasSameBrief};
 
 /// The traces of a legal run show its journal.
 pub fn legal_shows_journal()

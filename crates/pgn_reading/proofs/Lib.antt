@@ -1,3 +1,7 @@
+mod SlotLaws
+mod PartLaws
+pub mod MergedLaws
+pub mod BareLaws
 pub mod FieldLaws
 pub mod OneLineLaws
 pub mod NumberLaws

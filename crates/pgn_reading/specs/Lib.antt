@@ -1,3 +1,11 @@
+-- which journal traces show
+pub mod Merged
+-- traces whose notifications have moved into the journal
+pub mod Bare
+-- how transactions are put into their places
+pub mod Slots
+-- laws of what traces show
+pub mod Laws
 -- what the lines of a trace show, and what the walk adds
 pub mod Completed
 -- the form of an output

@@ -9,8 +9,8 @@ use Rattle.pgn_model.specs.declared.trace.Trace.{Trace}
 use Rattle.pgn_model.specs.Text.{end_line, item_lines, joined, journal_lines, section_line}
 use Rattle.pgn_text.specs.Rendering.{ends_lines, lines_of, marked, marked_items}
 use Rattle.pgn_live.specs.Lives.{came_from, came_lines, tagged}
-use Rattle.pgn_merge.specs.Bare.{bare, bare_item}
-use Rattle.pgn_merge.proofs.BareLaws.{lines-bare}
+use Rattle.pgn_reading.specs.Bare.{bare, bare_item}
+use Rattle.pgn_reading.proofs.BareLaws.{lines-bare}
 use Rattle.pgn_run.specs.Live.{end_text, lasts}
 
 -- behind so many items

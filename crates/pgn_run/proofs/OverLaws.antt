@@ -11,8 +11,8 @@ use Rattle.pgn_language.proofs.InputLaws.{reads-input}
 use Rattle.pgn_frames.specs.declared.frame_fault.FrameFault.{FrameFault}
 use Rattle.pgn_queries.specs.declared.wire_fault.WireFault.{WireFault}
 use Rattle.pgn_model.specs.Walk.{Settings}
-use Rattle.pgn_merge.specs.Bare.{IsLegalBare, bare}
-use Rattle.pgn_merge.proofs.BareLaws.{text-bare, brief-bare}
+use Rattle.pgn_reading.specs.Bare.{IsLegalBare, bare}
+use Rattle.pgn_reading.proofs.BareLaws.{text-bare, brief-bare}
 use Rattle.pgn_run.specs.declared.status.Status.{Status}
 use Rattle.pgn_run.specs.declared.status.Status.TheVariants.{Done, BadWords, BadScenario, ReadFault, WriteFault, NoMemory, BadWire, BadFrame, Illegal, NoOutput, CheckTooLarge}
 use Rattle.pgn_run.specs.Run.{Runs, RunsOver, HasWritten, Answers, IsOfRun, printed}

@@ -15,8 +15,8 @@ use Rattle.pgn_model.specs.Walk.{Settings}
 use Rattle.pgn_model.specs.Legal.{finished_xids, Legal}
 use Rattle.pgn_model.specs.laws.Text.{IsOneLineItem}
 use Rattle.pgn_model.proofs.TextLines.{text-has_lines}
-use Rattle.pgn_merge.specs.Shown.{IsShownIn, ShowsJournal}
-use Rattle.pgn_merge.proofs.ShownLaws.{legal-shows_journal}
+use Rattle.pgn_reading.specs.Merged.{IsShownIn, ShowsJournal}
+use Rattle.pgn_reading.proofs.MergedLaws.{legal-shows_journal}
 use Rattle.pgn_sorted.specs.Laws.{LegalHasLines}
 use Rattle.pgn_sorted.proofs.WalkLaws.{IsOneLineTx, SendsOneLines, sends, shows, along-all}
 

@@ -12,9 +12,9 @@ use Rattle.pgn_language.specs.Inputs.{AreNumbered, IsSound}
 use Rattle.pgn_hub.specs.Shape.{Shape}
 use Rattle.pgn_model.specs.Walk.{Settings}
 use Rattle.pgn_model.specs.Legal.{Legal}
-use Rattle.pgn_merge.specs.Bare.{bare}
-use Rattle.pgn_merge.specs.Shown.{ShowsJournal}
-use Rattle.pgn_merge.proofs.ShownLaws.{legal-shows_journal}
+use Rattle.pgn_reading.specs.Bare.{bare}
+use Rattle.pgn_reading.specs.Merged.{ShowsJournal}
+use Rattle.pgn_reading.proofs.MergedLaws.{legal-shows_journal}
 use Rattle.pgn_hub.specs.Passes.{IsWithin}
 use Rattle.pgn_hub.specs.Gathered.{Gathered}
 use Rattle.pgn_session.specs.declared.session.Session.{Session}

@@ -6,7 +6,7 @@ use Rattle.pgn_language.specs.declared.scenario.Scenario.{Scenario}
 use Rattle.pgn_model.specs.declared.trace.Trace.{Trace}
 use Rattle.pgn_model.specs.Legal.{Legal}
 use Rattle.pgn_hub.specs.Shape.{Shape}
-use Rattle.pgn_merge.specs.Bare.{bare}
+use Rattle.pgn_reading.specs.Bare.{bare}
 use Rattle.pgn_session.specs.declared.session.Session.{Session}
 use Rattle.pgn_session.specs.Runs.{shown_of}
 use Rattle.pgn_threads.specs.Drain.{EachMayEndWithRead}

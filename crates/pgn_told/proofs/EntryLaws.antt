@@ -12,7 +12,7 @@ use Rattle.pgn_journal.specs.Journal.{entry, is_committed, xids_from}
 use Rattle.pgn_model.specs.declared.item.Item.{Item}
 use Rattle.pgn_model.specs.declared.item.Item.TheVariants.{Publish, QueueFull}
 use Rattle.pgn_model.specs.Legal.{finished_xids}
-use Rattle.pgn_merge.specs.Shown.{IsShownIn}
+use Rattle.pgn_reading.specs.Merged.{IsShownIn}
 use Rattle.pgn_unique.proofs.SpentLaws.{sent_by, sent_in}
 use Rattle.pgn_told.specs.Told.{but_queued}
 use Rattle.pgn_told.proofs.StageLaws.{sent}

@@ -16,8 +16,8 @@ use Rattle.pgn_model.specs.declared.trace.Trace.{Trace}
 use Rattle.pgn_model.specs.Walk.{Allowed, Nothing, Settings, State, Terms, start}
 use Rattle.pgn_model.specs.Trace.{TraceOk}
 use Rattle.pgn_model.specs.Legal.{Legal}
-use Rattle.pgn_merge.specs.Shown.{IsShownIn}
-use Rattle.pgn_merge.proofs.ShownLaws.{legal-shows_journal}
+use Rattle.pgn_reading.specs.Merged.{IsShownIn}
+use Rattle.pgn_reading.proofs.MergedLaws.{legal-shows_journal}
 use Rattle.pgn_unique.proofs.SpentLaws.{items-spend}
 use Rattle.pgn_messages.specs.Messages.{messages}
 use Rattle.pgn_told.specs.Laws.{MessagesTell, alone}

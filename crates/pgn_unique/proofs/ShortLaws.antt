@@ -17,8 +17,8 @@ use Rattle.pgn_journal.specs.Journal.{entry, IsFinished, xids_from, xids_of}
 use Rattle.pgn_model.specs.Walk.{Settings, Terms, start}
 use Rattle.pgn_model.specs.Trace.{TraceOk}
 use Rattle.pgn_model.specs.Legal.{EachTrace, finished_xids, names_section, Legal}
-use Rattle.pgn_merge.specs.Shown.{IsShownIn, ShowsJournal}
-use Rattle.pgn_merge.proofs.ShownLaws.{legal-shows_journal}
+use Rattle.pgn_reading.specs.Merged.{IsShownIn, ShowsJournal}
+use Rattle.pgn_reading.proofs.MergedLaws.{legal-shows_journal}
 use Rattle.pgn_unique.specs.Laws.{JournalIsShort, IsOf, LegalHasJournal}
 use Rattle.pgn_unique.proofs.SpentLaws.{sent_by, sent_in, items-spend}
 

@@ -1,4 +1,4 @@
-use Rattle.pgn_merge.proofs.BareLaws.{lines-bare, text-bare, brief-bare}
+use Rattle.pgn_reading.proofs.BareLaws.{lines-bare, text-bare, brief-bare}
 use Rattle.pgn_laws.proofs.merge.bare_shows_the_same.Goals as goal
 
 pub returns-clause-lines : goal.returns-clause-lines

@@ -1,6 +1,6 @@
 use Rattle.std.proofs.Common.{◌≡◌, refl, List, map, drop, length, sym, ap, subst, ◌∙◌}
-use Rattle.pgn_merge.specs.Bare.{bare}
-use Rattle.pgn_merge.specs.Shown.{ShowsJournal}
+use Rattle.pgn_reading.specs.Bare.{bare}
+use Rattle.pgn_reading.specs.Merged.{ShowsJournal}
 use Rattle.pgn_model.specs.declared.item.Item.{Item}
 use Rattle.pgn_model.specs.declared.trace.Trace.{Trace}
 use Rattle.std.proofs.lemmas.List.Elements.{All-map, All-same}

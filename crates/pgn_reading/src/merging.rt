@@ -1,8 +1,8 @@
 ghost use Rattle.std.specs.Prelude.{◌≡◌, ◌-◌, List, map, filter_map, IfOk, OnOk, All};
 ghost use Rattle.pgn_journal.specs.declared.tx.Tx.{Tx};
-ghost use Rattle.pgn_merge.specs.Bare.{bare, bare_item};
-ghost use Rattle.pgn_merge.specs.Shown.{ShowsJournal, IsShownIn, finished};
-ghost use Rattle.pgn_merge.specs.Slots.{IsPartOf, IsFilled, HasPlaced, IsWidened};
+ghost use Rattle.pgn_reading.specs.Bare.{bare, bare_item};
+ghost use Rattle.pgn_reading.specs.Merged.{ShowsJournal, IsShownIn, finished};
+ghost use Rattle.pgn_reading.specs.Slots.{IsPartOf, IsFilled, HasPlaced, IsWidened};
 
 use pgn_base::{DbOid, FIRST_XID, Notes, SessionNo, Xid};
 use pgn_journal::{Fate, Tx};

@@ -1,6 +1,6 @@
 use Rattle.std.proofs.Common.{◌-◌, ◌+◌, length}
-use Rattle.pgn_merge.specs.Slots.{GoesOnEmpty}
-use Rattle.pgn_merge.proofs.merging.widen.Given as goal
+use Rattle.pgn_reading.specs.Slots.{GoesOnEmpty}
+use Rattle.pgn_reading.proofs.merging.widen.Given as goal
 
 abbrev pub invariant-loop-slots : goal.invariant-loop-slots
 invariant-loop-slots l = GoesOnEmpty l.fn.slots.items l.slots.items l.fn.place

@@ -1,9 +1,9 @@
 use Rattle.std.proofs.Common.{◌≡◌, List, ◌++◌, map, take, drop, All}
 use Rattle.pgn_journal.specs.declared.tx.Tx.{Tx}
-use Rattle.pgn_merge.specs.Bare.{bare_item}
-use Rattle.pgn_merge.specs.Shown.{IsShownIn}
-use Rattle.pgn_merge.specs.Slots.{IsPartOf, HasPlaced}
-use Rattle.pgn_merge.proofs.merging.place_each.Given as goal
+use Rattle.pgn_reading.specs.Bare.{bare_item}
+use Rattle.pgn_reading.specs.Merged.{IsShownIn}
+use Rattle.pgn_reading.specs.Slots.{IsPartOf, HasPlaced}
+use Rattle.pgn_reading.proofs.merging.place_each.Given as goal
 
 abbrev pub invariant-loop-item : goal.invariant-loop-item
 invariant-loop-item l = record {

@@ -17,8 +17,8 @@ use Rattle.pgn_model.specs.Along.{Along}
 use Rattle.pgn_model.specs.Walk.{Settings, Terms, State, start, after_item, Allowed, IsCommittedBy, IsAbortedBy}
 use Rattle.pgn_model.specs.Trace.{TraceOk}
 use Rattle.pgn_model.specs.Legal.{EachTrace, finished_xid, finished_xids, names_section}
-use Rattle.pgn_merge.specs.Shown.{IsShownIn, numbered}
-use Rattle.pgn_merge.specs.Laws.{LegalShowsJournal}
+use Rattle.pgn_reading.specs.Merged.{IsShownIn, numbered}
+use Rattle.pgn_reading.specs.Laws.{LegalShowsJournal}
 
 -- the numbers of a session's transactions are no less than the first
 xids-from : (session x : ℕ) (txs : List Tx) → All (λ n. x ≤ n) (xids_from session x txs)

@@ -4,7 +4,7 @@ use Rattle.pgn_base.specs.declared.limits.TheConstants.{FIRST_XID}
 use Rattle.pgn_journal.specs.declared.tx.Tx.{Tx}
 use Rattle.pgn_model.specs.declared.item.Item.{Item}
 use Rattle.pgn_model.specs.declared.trace.Trace.{Trace}
-use Rattle.pgn_merge.specs.Shown.{finished}
+use Rattle.pgn_reading.specs.Merged.{finished}
 
 -- the place holds the transaction
 abbrev pub Holds : List (Option Tx) → ℕ → Tx → Type 0

@@ -11,8 +11,8 @@ use Rattle.pgn_model.specs.declared.trace.Trace.{Trace}
 use Rattle.pgn_model.specs.Walk.{Settings}
 use Rattle.pgn_model.specs.Legal.{Legal}
 use Rattle.pgn_model.specs.Text.{brief, item_lines, text}
-use Rattle.pgn_merge.specs.Bare.{IsLegalBare, bare, bare_item}
-use Rattle.pgn_merge.specs.Shown.{ShowsJournal, finished}
+use Rattle.pgn_reading.specs.Bare.{IsLegalBare, bare, bare_item}
+use Rattle.pgn_reading.specs.Merged.{ShowsJournal, finished}
 
 -- the traces of a legal run show its journal
 abbrev pub LegalShowsJournal : Type 0

@@ -1,6 +1,6 @@
 use Rattle.std.proofs.Common.{rules}
-use Rattle.pgn_merge.proofs.SlotLaws.{taken-none, taken-one}
-use Rattle.pgn_merge.proofs.merging.taken.Goals as goal
+use Rattle.pgn_reading.proofs.SlotLaws.{taken-none, taken-one}
+use Rattle.pgn_reading.proofs.merging.taken.Goals as goal
 
 pub loop-slot-preserved-in_default : goal.loop-slot-preserved-in_default
 loop-slot-preserved-in_default c = taken-none c.loop-slot.yielded c.in-Some.slot c.loop-slot.txs.items (search rules) c.loop-slot.invariant

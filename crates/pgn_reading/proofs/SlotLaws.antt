@@ -11,8 +11,8 @@ use Rattle.pgn_model.specs.declared.item.Item.{Item}
 use Rattle.pgn_model.specs.declared.item.Item.TheVariants.{Line, Enlist, Publish, QueueFull, Leave, Reply, Refuse, Channels, Used, Raise, Found, TimedOut, Read}
 use Rattle.pgn_model.specs.declared.trace.Trace.{Trace}
 use Rattle.pgn_model.specs.Legal.{finished_xid, finished_xids}
-use Rattle.pgn_merge.specs.Shown.{ShowsJournal, IsEntry, IsShownIn, finished}
-use Rattle.pgn_merge.specs.Slots.{Holds, IsPartOf, GoesOnEmpty, HasPlacedAll, Keeps, IsInPlace, IsPlaced, IsFilled, HasPlaced}
+use Rattle.pgn_reading.specs.Merged.{ShowsJournal, IsEntry, IsShownIn, finished}
+use Rattle.pgn_reading.specs.Slots.{Holds, IsPartOf, GoesOnEmpty, HasPlacedAll, Keeps, IsInPlace, IsPlaced, IsFilled, HasPlaced}
 
 -- one more empty place
 replicate-push : (n : ℕ) (slot : Option Tx) → replicate n slot ++ slot ∷ [] ≡ replicate (suc n) slot

@@ -11,9 +11,9 @@ use Rattle.pgn_model.specs.declared.item.Item.TheVariants.{Line, Enlist, Publish
 use Rattle.pgn_model.specs.declared.trace.Trace.{Trace}
 use Rattle.pgn_model.specs.Legal.{finished_xid}
 use Rattle.pgn_model.specs.Text.{end_line, item_lines, joined, journal_lines, received_by, received_in, section_line, traces_lines}
-use Rattle.pgn_merge.specs.Bare.{bare, bare_item}
-use Rattle.pgn_merge.specs.Shown.{finished}
-use Rattle.pgn_merge.specs.Laws.{OthersAreBare, BareHasNoNote, LegalIsLegalBare, BareHasSameLines, BareHasSameText, BareHasSameBrief}
+use Rattle.pgn_reading.specs.Bare.{bare, bare_item}
+use Rattle.pgn_reading.specs.Merged.{finished}
+use Rattle.pgn_reading.specs.Laws.{OthersAreBare, BareHasNoNote, LegalIsLegalBare, BareHasSameLines, BareHasSameText, BareHasSameBrief}
 
 -- what holds of an item beside its bare one, where it does of a commit, of a full queue, and of each other item beside itself
 bare-item : (P : Item → Item → Type 0) → ((xid : ℕ) (notes : List Note) → P (Publish xid []) (Publish xid notes)) → ((full : Full) (notes : List Note) → P (QueueFull full []) (QueueFull full notes))

@@ -1,10 +1,10 @@
 use Rattle.std.proofs.Common.{rules, sym, ap, ◌∙◌}
 use Rattle.pgn_model.specs.declared.item.Item.{Item}
-use Rattle.pgn_merge.specs.Bare.{bare_item}
-use Rattle.pgn_merge.specs.Shown.{finished}
-use Rattle.pgn_merge.proofs.PartLaws.{part-here, part-more}
-use Rattle.pgn_merge.proofs.SlotLaws.{placed-none, placed-one}
-use Rattle.pgn_merge.proofs.merging.place_each.Goals as goal
+use Rattle.pgn_reading.specs.Bare.{bare_item}
+use Rattle.pgn_reading.specs.Merged.{finished}
+use Rattle.pgn_reading.proofs.PartLaws.{part-here, part-more}
+use Rattle.pgn_reading.proofs.SlotLaws.{placed-none, placed-one}
+use Rattle.pgn_reading.proofs.merging.place_each.Goals as goal
 
 pub loop-item-preserved-in_default : goal.loop-item-preserved-in_default
 loop-item-preserved-in_default c =

@@ -1,12 +1,12 @@
 use Rattle.std.proofs.Common.{rules, All, subst, sym}
 use Rattle.pgn_model.specs.declared.trace.Trace.{Trace}
 use Rattle.std.proofs.lemmas.List.Elements.{All-get_or}
-use Rattle.pgn_merge.specs.Bare.{bare}
-use Rattle.pgn_merge.specs.Shown.{IsShownIn}
-use Rattle.pgn_merge.specs.Slots.{HasPlaced}
-use Rattle.pgn_merge.proofs.PartLaws.{part-here, part-more}
-use Rattle.pgn_merge.proofs.SlotLaws.{placed-more, all-placed, taken-ok}
-use Rattle.pgn_merge.proofs.merging.merge.Goals as goal
+use Rattle.pgn_reading.specs.Bare.{bare}
+use Rattle.pgn_reading.specs.Merged.{IsShownIn}
+use Rattle.pgn_reading.specs.Slots.{HasPlaced}
+use Rattle.pgn_reading.proofs.PartLaws.{part-here, part-more}
+use Rattle.pgn_reading.proofs.SlotLaws.{placed-more, all-placed, taken-ok}
+use Rattle.pgn_reading.proofs.merging.merge.Goals as goal
 
 pub loop-trace-preserved : goal.loop-trace-preserved
 loop-trace-preserved c =

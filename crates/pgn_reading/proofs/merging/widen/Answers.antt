@@ -1,8 +1,8 @@
 use Rattle.std.proofs.Common.{List, Option, sym, subst, rules}
 use Rattle.pgn_journal.specs.declared.tx.Tx.{Tx}
-use Rattle.pgn_merge.specs.Slots.{GoesOnEmpty}
-use Rattle.pgn_merge.proofs.SlotLaws.{one-empty}
-use Rattle.pgn_merge.proofs.merging.widen.Goals as goal
+use Rattle.pgn_reading.specs.Slots.{GoesOnEmpty}
+use Rattle.pgn_reading.proofs.SlotLaws.{one-empty}
+use Rattle.pgn_reading.proofs.merging.widen.Goals as goal
 
 pub loop-slots-preserved : goal.loop-slots-preserved
 loop-slots-preserved c =

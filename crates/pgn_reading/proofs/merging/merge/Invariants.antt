@@ -1,9 +1,9 @@
 use Rattle.std.proofs.Common.{◌≡◌, List, ◌++◌, map, take, drop}
 use Rattle.pgn_journal.specs.declared.tx.Tx.{Tx}
-use Rattle.pgn_merge.specs.Bare.{bare}
-use Rattle.pgn_merge.specs.Shown.{ShowsJournal}
-use Rattle.pgn_merge.specs.Slots.{HasPlacedAll}
-use Rattle.pgn_merge.proofs.merging.merge.Given as goal
+use Rattle.pgn_reading.specs.Bare.{bare}
+use Rattle.pgn_reading.specs.Merged.{ShowsJournal}
+use Rattle.pgn_reading.specs.Slots.{HasPlacedAll}
+use Rattle.pgn_reading.proofs.merging.merge.Given as goal
 
 abbrev pub invariant-loop-trace : goal.invariant-loop-trace
 invariant-loop-trace l = record {

@@ -1,4 +1,0 @@
-mod SlotLaws
-mod PartLaws
-pub mod ShownLaws
-pub mod BareLaws
