@@ -1,4 +1,4 @@
-//! What the other crates speak of: names and payloads, sessions, databases and transaction numbers, the lists and sets made
+//! What the other crates speak of: names and payloads, sessions, databases and transaction numbers, the lists made
 //! of them, the commands, the enums of answers, and the outside as two traits.
 //!
 //! A value is valid by its type: a `Name` has 1 to 63 bytes and an `Xid` is at least 3, and a layer above need not test it
@@ -38,7 +38,7 @@ mod text;
 
 pub use action::{Action, Actions};
 pub use answers::{Needs, Refusal, Tag, Warning, Which};
-pub use channels::channel_bit;
+pub use channels::{CHANNEL_BITS, channel_bit};
 pub use command::Command;
 pub use copied::Copied;
 pub use format::Format;

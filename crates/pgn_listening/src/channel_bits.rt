@@ -4,16 +4,13 @@ ghost use Rattle.pgn_listening.specs.Listening.{AreOnce};
 ghost use Rattle.pgn_base.specs.Interest.{channel_bit};
 ghost use Rattle.pgn_listening.specs.Bits.{AreBits};
 
-use pgn_base::channel_bit;
-
-/// The channels of a set have so many bits.
-const BITS: usize = 64;
+use pgn_base::{CHANNEL_BITS, channel_bit};
 
 /// The channels of a set as bits, with how many of them have each bit, so that one that is left needs no look at the others.
 #[derive(Clone, Copy, Drop)]
 pub struct ChannelBits {
     word: u64,
-    counts: [usize; BITS],
+    counts: [usize; CHANNEL_BITS],
 }
 
 impl ChannelBits {
@@ -22,7 +19,7 @@ impl ChannelBits {
     {
         ChannelBits {
             word: 0,
-            counts: [0; BITS],
+            counts: [0; CHANNEL_BITS],
         }
     }
 

@@ -6,7 +6,7 @@ ghost use Rattle.pgn_base.specs.declared.note.Delivery.{Delivery};
 ghost use Rattle.pgn_base.specs.Names.{has_name};
 ghost use Rattle.pgn_base.specs.Interest.{channel_bit, interest as interest_of};
 ghost use Rattle.pgn_journal.specs.Bytes.{header_bytes, four_bytes};
-ghost use Rattle.pgn_wordhub.specs.declared.reading.TheConstants.{BITS};
+ghost use Rattle.pgn_base.specs.declared.channels.TheConstants.{CHANNEL_BITS};
 ghost use Rattle.pgn_journal.specs.Journal.{next_xid};
 ghost use Rattle.pgn_journal.specs.Packing.{Sender, cells_in};
 ghost use Rattle.pgn_journal.specs.Pieces.{Piece, AnEntry, piece_bytes, gives, committed_by};
@@ -21,7 +21,7 @@ ghost use Rattle.pgn_wordhub.specs.Walks.{StandsAt, IsCell, IsDueEntry, HasDueEn
 use crate::WordHub;
 use crate::parts::{delivery_of, entry_parts};
 use byteorder::{ByteOrder, LittleEndian};
-use pgn_base::{CELL_BYTES, Delivery, Format, Xid};
+use pgn_base::{CELL_BYTES, CHANNEL_BITS, Delivery, Format, Xid};
 use pgn_hub::PassView;
 use pgn_journal::Fate;
 use pgn_layout::{Pos, advance};
@@ -31,9 +31,6 @@ use std::alloc::{AllocError, Global};
 
 /// An entry of so many bytes or fewer is put together on the stack.
 const SHORT_BYTES: usize = 256;
-
-/// So many bits tell channels apart.
-const BITS: u64 = 64;
 
 /// The first three numbers of an entry or a filler.
 #[derive(Clone, Copy)]
@@ -231,7 +228,7 @@ fn sum_of_cell(cell: u32) -> (u64, bool)
 
 // Whether a number has a bit.
 fn has_bit(word: u64, bit: u64) -> bool
-    requires { bit < BITS }
+    requires { bit < CHANNEL_BITS }
     ensures { result ≡ (bit_at word bit == 1) }
 {
     (word >> bit) & 1 == 1
@@ -374,14 +371,14 @@ impl Reader<'_> {
             → StandsAt self.now.format (shown_cells (view_of pass.old)) at (AnEntry note sender)
             → length (piece_bytes self.now.format (AnEntry note sender)) ≡ 4 * cells
             → result ≡ channel_bit note.channel }
-        ensures within { result < BITS }
+        ensures within { result < CHANNEL_BITS }
     {
         let mut word = self.hub.channel_word(self.format, third);
         let mut sum = 0;
         for k in head_cells(self.format)..cells {
             let cell = self.hub.cell(pass, word);
             let (more, ended) = sum_of_cell(cell);
-            sum = (sum + more) % BITS;
+            sum = (sum + more) % CHANNEL_BITS as u64;
             if ended {
                 return sum;
             }
