@@ -1,7 +1,8 @@
 #![tactic(auto, using(crate::proofs::PutsLaws::put_laws))]
 
-ghost use Rattle.std.specs.Prelude.{◌≤◌, ◌++◌, codes, decimal, length};
+ghost use Rattle.std.specs.Prelude.{◌<◌, ◌++◌, codes, decimal, length};
 ghost use Rattle.pgn_text.specs.Rendering.{Puts, ended, mark_of};
+ghost use Rattle.pgn_text.specs.declared.pieces.TheConstants.{AROUND_MAX};
 
 use crate::Out;
 use crate::span::Span;
@@ -29,7 +30,7 @@ impl Out {
         start: &[u8],
         text: &[u8],
     )
-        requires { length start.now ≤ 98 }
+        requires { length start.now < AROUND_MAX }
         ensures { Puts K.held K.faults sink.old self.old sink.new self.new
             (ended (mark_of mark ++ (start.now ++ text.now))) }
     {
@@ -46,7 +47,7 @@ impl Out {
         start: &[u8],
         xid: &Xid,
     )
-        requires { length start.now ≤ 98 }
+        requires { length start.now < AROUND_MAX }
         ensures { Puts K.held K.faults sink.old self.old sink.new self.new
             (ended (mark_of mark ++ (start.now ++ decimal xid.now))) }
     {
@@ -62,7 +63,7 @@ impl Out {
         start: &[u8],
         span: &Span,
     )
-        requires { length start.now ≤ 98 }
+        requires { length start.now < AROUND_MAX }
         ensures { Puts K.held K.faults sink.old self.old sink.new self.new
             (ended (mark_of mark
             ++ (start.now ++ decimal span.now.from ++ codes " " ++ decimal span.now.to))) }
@@ -75,7 +76,7 @@ impl Out {
     // A start and a number.
     #[inline(always)]
     pub(crate) fn labelled<K: Sink>(&mut self, sink: &mut K, start: &[u8], number: u64)
-        requires { length start.now ≤ 98 }
+        requires { length start.now < AROUND_MAX }
         ensures { Puts K.held K.faults sink.old self.old sink.new self.new
             (start.now ++ decimal number) }
     {
@@ -85,7 +86,7 @@ impl Out {
     // A start and a number, at the end of a line.
     #[inline(always)]
     pub(crate) fn number_end<K: Sink>(&mut self, sink: &mut K, start: &[u8], number: u64)
-        requires { length start.now ≤ 98 }
+        requires { length start.now < AROUND_MAX }
         ensures { Puts K.held K.faults sink.old self.old sink.new self.new
             (ended (start.now ++ decimal number)) }
     {
@@ -101,7 +102,7 @@ impl Out {
         start: &[u8],
         number: u64,
     )
-        requires { length start.now ≤ 98 }
+        requires { length start.now < AROUND_MAX }
         ensures { Puts K.held K.faults sink.old self.old sink.new self.new
             (ended (mark_of mark ++ (start.now ++ decimal number))) }
     {

@@ -3,12 +3,16 @@
 ghost use Rattle.std.specs.Prelude.{◌+◌, ◌≤◌, ◌++◌, decimal, flat_map, length};
 ghost use Rattle.pgn_language.specs.Quotes.{doubled_byte};
 ghost use Rattle.pgn_text.specs.Rendering.{Puts};
+ghost use Rattle.pgn_text.specs.declared.pieces.TheConstants.{AROUND_MAX};
 
 use crate::Out;
 use crate::buffer::SIZE;
 use crate::digits::NUMBER_ROOM;
 use memchr::memchr;
 use pgn_base::Sink;
+
+// The texts around a number or a text have at most so many bytes together.
+pub(crate) const AROUND_MAX: usize = 99;
 
 // How long a text is at most that is copied byte by byte.
 const SHORT: usize = 16;
@@ -51,7 +55,7 @@ impl Out {
         number: u64,
         back: &[u8],
     )
-        requires { length front.now + length back.now ≤ 99 }
+        requires { length front.now + length back.now ≤ AROUND_MAX }
         ensures { Puts K.held K.faults sink.old self.old sink.new self.new
             (front.now ++ decimal number ++ back.now) }
     {
@@ -79,7 +83,7 @@ impl Out {
     // A text between two others.
     #[inline(always)]
     pub(crate) fn text_in<K: Sink>(&mut self, sink: &mut K, front: &[u8], text: &[u8], back: &[u8])
-        requires { length front.now + length back.now ≤ 99 }
+        requires { length front.now + length back.now ≤ AROUND_MAX }
         ensures { Puts K.held K.faults sink.old self.old sink.new self.new
             (front.now ++ text.now ++ back.now) }
     {
@@ -138,7 +142,7 @@ impl Out {
     // A text between quotes.
     #[inline(always)]
     pub(crate) fn quoted_in<K: Sink>(&mut self, sink: &mut K, quotes: Quotes<'_>, text: &[u8])
-        requires { length quotes.front.now + length quotes.back.now ≤ 99 }
+        requires { length quotes.front.now + length quotes.back.now ≤ AROUND_MAX }
         ensures { Puts K.held K.faults sink.old self.old sink.new self.new
             (quotes.entry.front.now ++ flat_map (doubled_byte quotes.entry.quote) text.now
             ++ quotes.entry.back.now) }
