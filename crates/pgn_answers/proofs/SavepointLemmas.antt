@@ -1,16 +1,14 @@
 -- What survives savepoints, first occurrences, and both together.
-use Rattle.std.proofs.Common.{◌≡◌, ◌≢◌, ℕ, Bool, true, false, cond, not, ◌&&◌, ◌||◌, List, [], ◌∷◌, ◌++◌, bytes_eq, filter, filter_map, Contains, AllPairs, All, inl, inr, refl, sym, ap, subst, ◌∙◌, arith, append_assoc, append-nil}
+use Rattle.std.proofs.Common.{◌≡◌, ◌≢◌, ℕ, Bool, true, false, cond, not, ◌&&◌, ◌||◌, List, [], ◌∷◌, ◌++◌, bytes_eq, filter, filter_map, AllPairs, All, refl, sym, ap, subst, ◌∙◌, arith, append-nil}
 use Rattle.std.specs.List.{list_any}
 use Rattle.std.proofs.lemmas.Slice.Eq.{bytes_eq-Decides}
-use Rattle.std.proofs.lemmas.List.Folds.{list_any-append, list_any_at}
-use Rattle.std.proofs.lemmas.Map.Views.{Contains-from_any}
+use Rattle.std.proofs.lemmas.List.Folds.{list_any-append}
 use Rattle.std.proofs.lemmas.List.Elements.{All-nil, All-cons, All-weaker}
 use Rattle.std.proofs.lemmas.List.Kept.{AllPairs-cons}
 use Rattle.pgn_base.specs.Names.{has_name}
 use Rattle.pgn_base.specs.declared.note.Note.{Note}
 use Rattle.pgn_base.specs.declared.action.Action.{Action}
 use Rattle.pgn_answers.specs.Savepoints.{Change, Saved, Acted, Noted, RolledBack, Released, is_savepoint, is_savepoint_of, has_savepoint, rolled_back, released, survivors, survivors_from, live_names, saved_name, acted_action, noted_note, surviving_actions, surviving_notes, same_note, firsts, firsts_after, has_note, once_after, once, live_changes, after_change}
-use Rattle.pgn_answers.specs.laws.Savepoints.{IsSublist}
 
 -- one more change comes after what is left of those before it
 survivors_from-push : (kept changes : List Change) (change : Change) → survivors_from kept (changes ++ change ∷ []) ≡ survivors_from (survivors_from kept changes) (change ∷ [])
@@ -21,18 +19,23 @@ survivors_from-push kept (Saved name ∷ changes) change = survivors_from-push (
 survivors_from-push kept (Acted action ∷ changes) change = survivors_from-push (kept ++ Acted action ∷ []) changes change
 survivors_from-push kept (Noted note ∷ changes) change = survivors_from-push (kept ++ Noted note ∷ []) changes change
 
+-- what survives one more change
 pub survives-rolled_back : (changes : List Change) (name : List ℕ) → survivors (changes ++ RolledBack name ∷ []) ≡ rolled_back name (survivors changes)
 survives-rolled_back changes name = survivors_from-push [] changes (RolledBack name)
 
+-- likewise a RELEASE
 pub survives-released : (changes : List Change) (name : List ℕ) → survivors (changes ++ Released name ∷ []) ≡ released name (survivors changes)
 survives-released changes name = survivors_from-push [] changes (Released name)
 
+-- likewise a savepoint
 pub survives-saved : (changes : List Change) (name : List ℕ) → survivors (changes ++ Saved name ∷ []) ≡ survivors changes ++ Saved name ∷ []
 survives-saved changes name = survivors_from-push [] changes (Saved name)
 
+-- likewise an action
 pub survives-acted : (changes : List Change) (action : Action) → survivors (changes ++ Acted action ∷ []) ≡ survivors changes ++ Acted action ∷ []
 survives-acted changes action = survivors_from-push [] changes (Acted action)
 
+-- likewise a notification
 pub survives-noted : (changes : List Change) (note : Note) → survivors (changes ++ Noted note ∷ []) ≡ survivors changes ++ Noted note ∷ []
 survives-noted changes note = survivors_from-push [] changes (Noted note)
 
@@ -88,29 +91,9 @@ named name (Noted note ∷ changes) = named name changes
 named name (RolledBack other ∷ changes) = named name changes
 named name (Released other ∷ changes) = named name changes
 
+-- a name is live where a savepoint of it survives
 pub live-is_saved : (changes : List Change) (name : List ℕ) → has_name (live_names changes) name ≡ has_savepoint name (survivors changes)
 live-is_saved changes name = named name (survivors changes)
-
--- the mark that is cut back to stays
-pub has_savepoint-cut : (name : List ℕ) (changes : List Change) → has_savepoint name (rolled_back name changes) ≡ has_savepoint name changes
-has_savepoint-cut name [] = refl
-has_savepoint-cut name (change ∷ changes) = cut (has_savepoint name changes) (is_savepoint_of name change) refl refl (has_savepoint-cut name changes)
-  where
-    cut : (later here : Bool) → has_savepoint name changes ≡ later → is_savepoint_of name change ≡ here → has_savepoint name (rolled_back name changes) ≡ has_savepoint name changes
-        → has_savepoint name (cond later (change ∷ rolled_back name changes) (cond here (change ∷ []) (change ∷ changes))) ≡ (is_savepoint_of name change || has_savepoint name changes)
-    cut true here l h ih = ap (λ (b : Bool). is_savepoint_of name change || b) ih
-    cut false true l h ih = ap (λ (b : Bool). is_savepoint_of name change || b) (sym l)
-    cut false false l h ih = refl
-
-pub rolled_back-keeps_mark : (changes : List Change) (name : List ℕ) → has_name (live_names (changes ++ RolledBack name ∷ [])) name ≡ has_name (live_names changes) name
-rolled_back-keeps_mark changes name =
-    live-is_saved (changes ++ RolledBack name ∷ []) name ∙ ap (has_savepoint name) (survives-rolled_back changes name) ∙ has_savepoint-cut name (survivors changes) ∙ sym (live-is_saved changes name)
-
-pub rolled_back-of_none : (changes : List Change) (name : List ℕ) → has_name (live_names changes) name ≡ false → survivors (changes ++ RolledBack name ∷ []) ≡ survivors changes
-rolled_back-of_none changes name e = survives-rolled_back changes name ∙ rolled_back-none name (survivors changes) (sym (live-is_saved changes name) ∙ e)
-
-pub released-of_none : (changes : List Change) (name : List ℕ) → has_name (live_names changes) name ≡ false → survivors (changes ++ Released name ∷ []) ≡ survivors changes
-released-of_none changes name e = survives-released changes name ∙ released-none name (survivors changes) (sym (live-is_saved changes name) ∙ e)
 
 -- a notification is itself
 pub same_note-same : (note : Note) → same_note note note ≡ true
@@ -133,11 +116,11 @@ same_note-true a b e =
     second false y e = cc
 
 -- who has the same notification finds it in the same lists
-seen-too : (note other : Note) (seen : List Note) → list_any (same_note other) seen ≡ true → same_note note other ≡ true → list_any (same_note note) seen ≡ true
+pub seen-too : (note other : Note) (seen : List Note) → list_any (same_note other) seen ≡ true → same_note note other ≡ true → list_any (same_note note) seen ≡ true
 seen-too note other seen e same = subst (λ (n : Note). list_any (same_note n) seen ≡ true) (sym (same_note-true note other same)) e
 
 -- a test that another implies
-absorbed : (seen here later : Bool) → (here ≡ true → seen ≡ true) → (seen || later) ≡ (seen || (here || later))
+pub absorbed : (seen here later : Bool) → (here ≡ true → seen ≡ true) → (seen || later) ≡ (seen || (here || later))
 absorbed true here later h = refl
 absorbed false true later h = absurd (let e : false ≡ true = h refl in cc)
 absorbed false false later h = refl
@@ -149,28 +132,13 @@ moved false true a b e = refl
 moved false false a b e = e
 
 -- a test of one more among those seen
-grouped : (a b c : Bool) → ((a || (b || false)) || c) ≡ (a || (b || c))
+pub grouped : (a b c : Bool) → ((a || (b || false)) || c) ≡ (a || (b || c))
 grouped true b c = refl
 grouped false true c = refl
 grouped false false c = refl
 
--- a list with items left out, before a longer list
-sublist-skip : (xs ys : List Note) (y : Note) → IsSublist xs ys → IsSublist xs (y ∷ ys)
-sublist-skip [] ys y h = tt
-sublist-skip (x ∷ xs) ys y h = inr h
-
-firsts_after-order : (seen notes : List Note) → IsSublist (firsts_after seen notes) notes
-firsts_after-order seen [] = tt
-firsts_after-order seen (note ∷ notes) = elim (list_any (same_note note) seen) as (λ b. IsSublist (cond b (firsts_after seen notes) (note ∷ firsts_after (seen ++ note ∷ []) notes)) (note ∷ notes)) [
-  | true ↦ sublist-skip (firsts_after seen notes) notes note (firsts_after-order seen notes)
-  | false ↦ inl (refl, firsts_after-order (seen ++ note ∷ []) notes)
-]
-
-pub firsts-in_order : (notes : List Note) → IsSublist (firsts notes) notes
-firsts-in_order notes = firsts_after-order [] notes
-
 -- which notifications stand in first occurrences and in those seen
-firsts_after-have : (note : Note) (seen notes : List Note)
+pub firsts_after-have : (note : Note) (seen notes : List Note)
     → (list_any (same_note note) seen || list_any (same_note note) (firsts_after seen notes)) ≡ (list_any (same_note note) seen || list_any (same_note note) notes)
 firsts_after-have note seen [] = refl
 firsts_after-have note seen (other ∷ notes) =
@@ -182,13 +150,6 @@ firsts_after-have note seen (other ∷ notes) =
       | false ↦ λ e. moved has same (list_any (same_note note) rest) (list_any (same_note note) notes)
           (subst (λ (b : Bool). (b || list_any (same_note note) rest) ≡ (b || list_any (same_note note) notes)) (list_any-append (same_note note) seen (other ∷ [])) (firsts_after-have note (seen ++ other ∷ []) notes))
     ]) refl
-
-pub firsts-have_all : (notes : List Note) (note : Note) → Contains notes note → Contains (firsts notes) note
-firsts-have_all notes note h =
-    Contains-from_any same_note-true note (firsts notes) (firsts_after-have note [] notes ∙ any-from_Contains notes note h)
-  where
-    any-from_Contains : (xs : List Note) (x : Note) → Contains xs x → list_any (same_note x) xs ≡ true
-    any-from_Contains xs x (k, within, at) = list_any_at (same_note x) xs k x within (ap (same_note x) at ∙ same_note-same x)
 
 -- a test that neither of two lists passes, the first of them does not
 any-front : (test : Note → Bool) (xs ys : List Note) → list_any test (xs ++ ys) ≡ false → list_any test xs ≡ false
@@ -237,45 +198,9 @@ pub firsts-differ : (notes : List Note) → AllPairs (λ (a : Note) (b : Note). 
 firsts-differ notes = firsts_after-differ [] notes
 
 -- an item at the end of a list that is there or not
-at_end : {A : Type 0} (b : Bool) (xs : List A) (x : A) → xs ++ cond b [] (x ∷ []) ≡ cond b xs (xs ++ x ∷ [])
+pub at_end : {A : Type 0} (b : Bool) (xs : List A) (x : A) → xs ++ cond b [] (x ∷ []) ≡ cond b xs (xs ++ x ∷ [])
 at_end true xs x = append-nil xs
 at_end false xs x = refl
-
--- one more notification
-firsts_after-push : (note : Note) (seen notes : List Note)
-    → firsts_after seen (notes ++ note ∷ []) ≡ firsts_after seen notes ++ cond (list_any (same_note note) seen || list_any (same_note note) notes) [] (note ∷ [])
-firsts_after-push note seen [] = last (list_any (same_note note) seen)
-  where
-    last : (b : Bool) → cond b (firsts_after seen []) (note ∷ []) ≡ cond (b || false) [] (note ∷ [])
-    last true = refl
-    last false = refl
-firsts_after-push note seen (other ∷ notes) =
-    let has : Bool = list_any (same_note note) seen in
-    let same : Bool = same_note note other in
-    let later : Bool = list_any (same_note note) notes in
-    let more : List Note = seen ++ other ∷ [] in
-    (elim (list_any (same_note other) seen) as (λ b. list_any (same_note other) seen ≡ b
-    → cond b (firsts_after seen (notes ++ note ∷ [])) (other ∷ firsts_after more (notes ++ note ∷ [])) ≡ cond b (firsts_after seen notes) (other ∷ firsts_after more notes) ++ cond (has || (same || later)) [] (note ∷ [])) [
-      | true ↦ λ e. firsts_after-push note seen notes ∙ ap (λ (b : Bool). firsts_after seen notes ++ cond b [] (note ∷ [])) (absorbed has same later (λ h. seen-too note other seen e h))
-      | false ↦ λ e. ap (λ (ns : List Note). other ∷ ns) (firsts_after-push note more notes
-          ∙ ap (λ (b : Bool). firsts_after more notes ++ cond (b || later) [] (note ∷ [])) (list_any-append (same_note note) seen (other ∷ []))
-          ∙ ap (λ (b : Bool). firsts_after more notes ++ cond b [] (note ∷ [])) (grouped has same later))
-    ]) refl
-
-pub firsts-push : (notes : List Note) (note : Note) → firsts (notes ++ note ∷ []) ≡ cond (list_any (same_note note) notes) (firsts notes) (firsts notes ++ note ∷ [])
-firsts-push notes note = firsts_after-push note [] notes ∙ at_end (list_any (same_note note) notes) (firsts notes) note
-
-firsts_after-twice : (seen notes : List Note) → firsts_after seen (firsts_after seen notes) ≡ firsts_after seen notes
-firsts_after-twice seen [] = refl
-firsts_after-twice seen (note ∷ notes) =
-    let rest : List Note = firsts_after (seen ++ note ∷ []) notes in
-    (elim (list_any (same_note note) seen) as (λ b. list_any (same_note note) seen ≡ b → firsts_after seen (cond b (firsts_after seen notes) (note ∷ rest)) ≡ cond b (firsts_after seen notes) (note ∷ rest)) [
-      | true ↦ λ e. firsts_after-twice seen notes
-      | false ↦ λ e. rw e (ap (λ (ns : List Note). note ∷ ns) (firsts_after-twice (seen ++ note ∷ []) notes))
-    ]) refl
-
-pub firsts-twice : (notes : List Note) → firsts (firsts notes) ≡ firsts notes
-firsts-twice notes = firsts_after-twice [] notes
 
 -- dropping repeats leaves the marks
 pub has_savepoint-once : (name : List ℕ) (seen : List Note) (changes : List Change) → has_savepoint name (once_after seen changes) ≡ has_savepoint name changes
@@ -424,21 +349,6 @@ actions-once seen (Acted action ∷ changes) = ap (λ (actions : List Action). a
 actions-once seen (RolledBack other ∷ changes) = actions-once seen changes
 actions-once seen (Released other ∷ changes) = actions-once seen changes
 
--- the names stay
-names-once : (seen : List Note) (changes : List Change) → filter_map saved_name (once_after seen changes) ≡ filter_map saved_name changes
-names-once seen [] = refl
-names-once seen (Noted note ∷ changes) = elim (list_any (same_note note) seen) as (λ b. filter_map saved_name (cond b (once_after seen changes) (Noted note ∷ once_after (seen ++ note ∷ []) changes)) ≡ filter_map saved_name changes) [
-  | true ↦ names-once seen changes
-  | false ↦ names-once (seen ++ note ∷ []) changes
-]
-names-once seen (Saved name ∷ changes) = ap (λ (names : List (List ℕ)). name ∷ names) (names-once seen changes)
-names-once seen (Acted action ∷ changes) = names-once seen changes
-names-once seen (RolledBack other ∷ changes) = names-once seen changes
-names-once seen (Released other ∷ changes) = names-once seen changes
-
-pub live-has_names : (changes : List Change) → filter_map saved_name (live_changes changes) ≡ live_names changes
-live-has_names changes = names-once [] (survivors changes)
-
 -- what is left of a list holds the actions that survive, in their order
 pub live-has_actions : (changes : List Change) → filter_map acted_action (live_changes changes) ≡ surviving_actions changes
 live-has_actions changes = actions-once [] (survivors changes)
@@ -473,7 +383,7 @@ once-note note seen (Noted other ∷ changes) =
     ]) refl
 
 -- what is live takes one more change in
-live-push : (changes : List Change) (change : Change) → live_changes (changes ++ change ∷ []) ≡ after_change (live_changes changes) change
+pub live-push : (changes : List Change) (change : Change) → live_changes (changes ++ change ∷ []) ≡ after_change (live_changes changes) change
 live-push changes (RolledBack name) = ap once (survives-rolled_back changes name) ∙ once-cut name [] (survivors changes)
 live-push changes (Released name) = ap once (survives-released changes name) ∙ once-released name [] (survivors changes)
 live-push changes (Saved name) = ap once (survives-saved changes name) ∙ once-other (Saved name) (λ seen. refl) [] (survivors changes)
@@ -495,12 +405,6 @@ live-saved changes name = live-push changes (Saved name)
 pub live-acted : (changes : List Change) (action : Action) → live_changes (changes ++ Acted action ∷ []) ≡ live_changes changes ++ Acted action ∷ []
 live-acted changes action = live-push changes (Acted action)
 
-pub live-new : (changes : List Change) (note : Note) → has_note note (live_changes changes) ≡ false → live_changes (changes ++ Noted note ∷ []) ≡ live_changes changes ++ Noted note ∷ []
-live-new changes note e = live-push changes (Noted note) ∙ ap (λ (b : Bool). cond b (live_changes changes) (live_changes changes ++ Noted note ∷ [])) e
-
-pub live-repeated : (changes : List Change) (note : Note) → has_note note (live_changes changes) ≡ true → live_changes (changes ++ Noted note ∷ []) ≡ live_changes changes
-live-repeated changes note e = live-push changes (Noted note) ∙ ap (λ (b : Bool). cond b (live_changes changes) (live_changes changes ++ Noted note ∷ [])) e
-
 -- a rollback more: what was left is rolled back
 pub live-rolled_back : (changes : List Change) (name : List ℕ) → live_changes (changes ++ RolledBack name ∷ []) ≡ rolled_back name (live_changes changes)
 live-rolled_back changes name = live-push changes (RolledBack name)
@@ -512,116 +416,3 @@ live-released changes name = live-push changes (Released name)
 -- a savepoint of a name is live exactly where what is left has one
 pub live-has_savepoint : (changes : List Change) (name : List ℕ) → has_name (live_names changes) name ≡ has_savepoint name (live_changes changes)
 live-has_savepoint changes name = live-is_saved changes name ∙ sym (has_savepoint-once name [] (survivors changes))
-
--- there is no ROLLBACK TO and no RELEASE in a list
-IsSettled : List Change → Type 0
-IsSettled [] = Unit {0}
-IsSettled (RolledBack name ∷ changes) = ⊥
-IsSettled (Released name ∷ changes) = ⊥
-IsSettled (change ∷ changes) = IsSettled changes
-
-settled-cut : (name : List ℕ) (changes : List Change) → IsSettled changes → IsSettled (rolled_back name changes)
-unfolding IsSettled
-settled-cut name [] h = tt
-settled-cut name (Noted note ∷ changes) h = subst IsSettled (sym (rolled_back-keeps name (Noted note) changes refl)) (settled-cut name changes h)
-settled-cut name (Acted action ∷ changes) h = subst IsSettled (sym (rolled_back-keeps name (Acted action) changes refl)) (settled-cut name changes h)
-settled-cut name (Saved other ∷ changes) h =
-    let mark : Change = Saved other in
-    elim (has_savepoint name changes) as (λ b. IsSettled (cond b (mark ∷ rolled_back name changes) (cond (bytes_eq name other) (mark ∷ []) (mark ∷ changes)))) [
-      | true ↦ settled-cut name changes h
-      | false ↦ elim (bytes_eq name other) as (λ b. IsSettled (cond b (mark ∷ []) (mark ∷ changes))) [ true ↦ tt | false ↦ h ]
-    ]
-settled-cut name (RolledBack other ∷ changes) h = absurd h
-settled-cut name (Released other ∷ changes) h = absurd h
-
-settled-unmarked : (changes : List Change) → IsSettled changes → IsSettled (filter (λ change. not (is_savepoint change)) changes)
-unfolding IsSettled
-settled-unmarked [] h = tt
-settled-unmarked (Noted note ∷ changes) h = settled-unmarked changes h
-settled-unmarked (Acted action ∷ changes) h = settled-unmarked changes h
-settled-unmarked (Saved other ∷ changes) h = settled-unmarked changes h
-settled-unmarked (RolledBack other ∷ changes) h = absurd h
-settled-unmarked (Released other ∷ changes) h = absurd h
-
-settled-released : (name : List ℕ) (changes : List Change) → IsSettled changes → IsSettled (released name changes)
-unfolding IsSettled
-settled-released name [] h = tt
-settled-released name (Noted note ∷ changes) h = subst IsSettled (sym (released-keeps name (Noted note) changes refl)) (settled-released name changes h)
-settled-released name (Acted action ∷ changes) h = subst IsSettled (sym (released-keeps name (Acted action) changes refl)) (settled-released name changes h)
-settled-released name (Saved other ∷ changes) h =
-    let mark : Change = Saved other in
-    elim (has_savepoint name changes) as (λ b. IsSettled (cond b (mark ∷ released name changes) (cond (bytes_eq name other) (filter (λ change. not (is_savepoint change)) changes) (mark ∷ changes)))) [
-      | true ↦ settled-released name changes h
-      | false ↦ elim (bytes_eq name other) as (λ b. IsSettled (cond b (filter (λ change. not (is_savepoint change)) changes) (mark ∷ changes))) [ true ↦ settled-unmarked changes h | false ↦ h ]
-    ]
-settled-released name (RolledBack other ∷ changes) h = absurd h
-settled-released name (Released other ∷ changes) h = absurd h
-
-settled-append : (xs ys : List Change) → IsSettled xs → IsSettled ys → IsSettled (xs ++ ys)
-unfolding IsSettled
-settled-append [] ys h k = k
-settled-append (Noted note ∷ xs) ys h k = settled-append xs ys h k
-settled-append (Acted action ∷ xs) ys h k = settled-append xs ys h k
-settled-append (Saved other ∷ xs) ys h k = settled-append xs ys h k
-settled-append (RolledBack other ∷ xs) ys h k = absurd h
-settled-append (Released other ∷ xs) ys h k = absurd h
-
--- what survives is settled
-settled-survivors : (kept changes : List Change) → IsSettled kept → IsSettled (survivors_from kept changes)
-unfolding IsSettled
-settled-survivors kept [] h = h
-settled-survivors kept (RolledBack name ∷ changes) h = settled-survivors (rolled_back name kept) changes (settled-cut name kept h)
-settled-survivors kept (Released name ∷ changes) h = settled-survivors (released name kept) changes (settled-released name kept h)
-settled-survivors kept (Saved name ∷ changes) h = settled-survivors (kept ++ Saved name ∷ []) changes (settled-append kept (Saved name ∷ []) h tt)
-settled-survivors kept (Acted action ∷ changes) h = settled-survivors (kept ++ Acted action ∷ []) changes (settled-append kept (Acted action ∷ []) h tt)
-settled-survivors kept (Noted note ∷ changes) h = settled-survivors (kept ++ Noted note ∷ []) changes (settled-append kept (Noted note ∷ []) h tt)
-
-settled-once : (seen : List Note) (changes : List Change) → IsSettled changes → IsSettled (once_after seen changes)
-unfolding IsSettled
-settled-once seen [] h = tt
-settled-once seen (Noted note ∷ changes) h = elim (list_any (same_note note) seen) as (λ b. IsSettled (cond b (once_after seen changes) (Noted note ∷ once_after (seen ++ note ∷ []) changes))) [
-  | true ↦ settled-once seen changes h
-  | false ↦ settled-once (seen ++ note ∷ []) changes h
-]
-settled-once seen (Acted action ∷ changes) h = settled-once seen changes h
-settled-once seen (Saved other ∷ changes) h = settled-once seen changes h
-settled-once seen (RolledBack other ∷ changes) h = absurd h
-settled-once seen (Released other ∷ changes) h = absurd h
-
--- a settled list survives whole
-survivors_from-settled : (kept changes : List Change) → IsSettled changes → survivors_from kept changes ≡ kept ++ changes
-unfolding IsSettled
-survivors_from-settled kept [] h = sym (append-nil kept)
-survivors_from-settled kept (Noted note ∷ changes) h = survivors_from-settled (kept ++ Noted note ∷ []) changes h ∙ append_assoc kept (Noted note ∷ []) changes
-survivors_from-settled kept (Acted action ∷ changes) h = survivors_from-settled (kept ++ Acted action ∷ []) changes h ∙ append_assoc kept (Acted action ∷ []) changes
-survivors_from-settled kept (Saved name ∷ changes) h = survivors_from-settled (kept ++ Saved name ∷ []) changes h ∙ append_assoc kept (Saved name ∷ []) changes
-survivors_from-settled kept (RolledBack name ∷ changes) h = absurd h
-survivors_from-settled kept (Released name ∷ changes) h = absurd h
-
--- a list without repeats has none to drop
-once-twice : (seen : List Note) (changes : List Change) → once_after seen (once_after seen changes) ≡ once_after seen changes
-once-twice seen [] = refl
-once-twice seen (Noted note ∷ changes) =
-    let rest : List Change = once_after (seen ++ note ∷ []) changes in
-    (elim (list_any (same_note note) seen) as (λ b. list_any (same_note note) seen ≡ b → once_after seen (cond b (once_after seen changes) (Noted note ∷ rest)) ≡ cond b (once_after seen changes) (Noted note ∷ rest)) [
-      | true ↦ λ e. once-twice seen changes
-      | false ↦ λ e. rw e (ap (λ (cs : List Change). Noted note ∷ cs) (once-twice (seen ++ note ∷ []) changes))
-    ]) refl
-once-twice seen (Saved other ∷ changes) = ap (λ (cs : List Change). Saved other ∷ cs) (once-twice seen changes)
-once-twice seen (Acted action ∷ changes) = ap (λ (cs : List Change). Acted action ∷ cs) (once-twice seen changes)
-once-twice seen (RolledBack other ∷ changes) = ap (λ (cs : List Change). RolledBack other ∷ cs) (once-twice seen changes)
-once-twice seen (Released other ∷ changes) = ap (λ (cs : List Change). Released other ∷ cs) (once-twice seen changes)
-
-pub live-twice : (changes : List Change) → live_changes (live_changes changes) ≡ live_changes changes
-unfolding IsSettled
-live-twice changes =
-    ap once (survivors_from-settled [] (live_changes changes) (settled-once [] (survivors changes) (settled-survivors [] changes tt))) ∙ once-twice [] (survivors changes)
-
--- the laws of savepoints, rollbacks and releases
-pub ruleset savepoint_laws = (survives-rolled_back, survives-released, survives-saved, survives-acted, survives-noted, rolled_back-cuts, release-keeps, live-is_saved, live-has_savepoint, rolled_back-keeps_mark, rolled_back-of_none, released-of_none)
-
--- the laws of the first notifications of each kind
-pub ruleset firsts_laws = (firsts-in_order, firsts-differ, firsts-have_all, firsts-push, firsts-twice)
-
--- the laws of what is left of a list, one change after another
-pub ruleset live_laws = (live-after_change, live-saved, live-acted, live-new, live-repeated, live-rolled_back, live-released, live-twice, live-has_names, live-has_actions, live-has_firsts)

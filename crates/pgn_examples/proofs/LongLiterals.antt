@@ -10,7 +10,7 @@ use Rattle.pgn_language.specs.Tokens.{Word, Literal, Sign, Token, tokens, goes_o
 use Rattle.pgn_language.specs.laws.Tokens.{IsWord, Covers, Ended, Spaced, Tokened}
 use Rattle.pgn_language.specs.Grammar.{table, cut, lexemes_of, is_long, limited, ReadsAs, reading, reading_of, command_of}
 use Rattle.pgn_language.proofs.GrammarLaws.{reading-reads}
-use Rattle.pgn_language.proofs.CoverLaws.{one-cover}
+use Rattle.pgn_laws.proofs.CoverLaws.{one-cover}
 
 -- letters have no quote
 plain_letters : (n : ℕ) → flat_map (doubled_byte 39) (replicate n 120) ≡ replicate n 120

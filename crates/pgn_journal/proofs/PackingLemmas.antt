@@ -1,10 +1,7 @@
 -- Proofs of the laws of where the entries of a journal lie.
-use Rattle.std.proofs.Common.{◌≡◌, ◌≢◌, ℕ, zero, suc, ◌+◌, ◌-◌, ◌*◌, ◌/◌, ◌%◌, ◌<◌, ◌≤◌, Bool, true, false, cond, List, [], ◌∷◌, ◌++◌, length, get_or, take, drop, replicate, Option, Some, None, slice_get, fold, sym, ap, ◌∙◌, refl, subst, arith, append_assoc, add-zero, zero-add, inl, inr}
+use Rattle.std.proofs.Common.{◌≡◌, ◌≢◌, ℕ, zero, suc, ◌+◌, ◌-◌, ◌*◌, ◌/◌, ◌%◌, ◌<◌, ◌≤◌, Bool, true, false, cond, List, [], ◌∷◌, ◌++◌, length, get_or, take, drop, replicate, Option, Some, None, slice_get, fold, sym, ap, ◌∙◌, refl, subst, arith, append_assoc, add-zero, zero-add}
 use Rattle.std.specs.Prelude.{All, sum_by}
-use Rattle.std.proofs.lemmas.List.{append-nil, length-append, length-take, length-replicate, take_at, drop_at, take_all, take-take, take-append-drop, take-append-le}
-use Rattle.std.proofs.lemmas.Nat.{le_bytes_4}
-use Rattle.std.specs.Int.{w32, from_le_bytes}
-use Rattle.std.proofs.lemmas.Bool.{cases_lt}
+use Rattle.std.proofs.lemmas.List.{append-nil, length-append, length-take, length-replicate, take_all, take-take, take-append-drop, take-append-le}
 use Rattle.std.proofs.lemmas.Bool.Decides.{nat_tests}
 use Rattle.std.proofs.lemmas.List.Sums.{sum_by-cons}
 use Rattle.std.proofs.lemmas.List.Elements.{All-head, All-tail, All-take}
@@ -17,10 +14,10 @@ use Rattle.pgn_journal.specs.declared.tx.Fate.{Fate}
 use Rattle.pgn_journal.specs.declared.tx.Fate.TheVariants.{Committed, Aborted}
 use Rattle.pgn_journal.specs.Journal.{entry, IsQueued, IsFinished}
 use Rattle.pgn_base.specs.Notes.{IsNote}
-use Rattle.pgn_journal.specs.Bytes.{header_bytes, alignment, least_bytes, four_bytes, entry_length, spelled, filler}
-use Rattle.pgn_journal.specs.Packing.{cells_in, bytes_in, fits, has_room, next_page, is_page_start, bytes_left, cells_left, filled_cells, page_rest, entry_cells, filler_cells, note_cells, notes_cells, end_cells, tx_cells, image_from, image, place, Sender, sender_of, after_rest, after_bytes, put_bytes, put, put_all, ended, after, HasRoom, bytes_of}
-use Rattle.pgn_journal.specs.laws.Packing.{CellsGiveBytes, NoteMoves, PlaceRises, PlaceBound, PlaceFolds, PutTakes, PagesHold, NotesInTurn, FirstPlace, NextPlace, LastPlace, IsPacked, LeavesRoom, PlaceGrows, AbortedEnds, PlacesAgree, ImagesAgree, CellsOfEach, CellsApart}
-use Rattle.pgn_journal.proofs.BytesLemmas.{length-spelled, length-filler, entry_lengths, are_bytes}
+use Rattle.pgn_journal.specs.Bytes.{header_bytes, alignment, least_bytes, entry_length, spelled, filler}
+use Rattle.pgn_journal.specs.Packing.{cells_in, bytes_in, fits, has_room, next_page, is_page_start, bytes_left, cells_left, filled_cells, page_rest, entry_cells, filler_cells, note_cells, notes_cells, end_cells, tx_cells, image_from, image, place, Sender, sender_of, after_rest, after_bytes, put_bytes, put, put_all, ended, after, HasRoom}
+use Rattle.pgn_journal.specs.laws.Packing.{NoteMoves, PlaceRises, PlaceBound, PlaceFolds, PutTakes, PagesHold, NotesInTurn, FirstPlace, NextPlace, LastPlace, PlaceGrows, PlacesAgree, ImagesAgree}
+use Rattle.pgn_journal.proofs.BytesLemmas.{length-spelled, length-filler, entry_lengths}
 
 -- one cell for each four bytes
 pub length-filled_cells : (bytes : List ℕ) → length (filled_cells bytes) ≡ length bytes / 4
@@ -92,6 +89,7 @@ pub room_after_bytes : (format : Format) (at bytes : ℕ) → HasRoom format at 
 unfolding after_bytes
 room_after_bytes format at bytes room whole = room_after_rest format (at + cells_in bytes) (whole_after format at bytes room.whole whole)
 
+-- the cells of an entry are packed
 pub packed_bytes : (format : Format) (note : Note) (db xid pid at : ℕ)
     → at + length (entry_cells format at (spelled format note db xid pid)) ≡ after_bytes format at (entry_length format note)
 unfolding entry_cells after_bytes
@@ -143,6 +141,7 @@ packed_notes format s at (note ∷ notes) room =
     let sum : at + length (note_cells format s at note ++ notes_cells format s (at + length (note_cells format s at note)) notes) ≡ put_all format (at + length (note_cells format s at note)) notes = simp length-append (omega (arith, rest)) in
     sum ∙ ap (λ n. put_all format n notes) here
 
+-- so is the end of a transaction
 pub packed_end : (format : Format) (s : Sender) (fate : Fate) (at : ℕ) → HasRoom format at → at + length (end_cells format s fate at) ≡ ended fate at
 unfolding end_cells ended
 packed_end format s Committed at room = omega arith
@@ -213,21 +212,6 @@ pub room_place : (format : Format) (journal : List Tx) (x : ℕ) → HasRoom for
 unfolding place
 room_place format journal x = room_of_image format (take (x - 3) journal)
 
--- transactions and notifications leave room behind them
-pub leaves_room : LeavesRoom
-leaves_room = record { at_start = room_place; after_notes = room_put_all }
-
--- each step of the arithmetic counts the cells of what it passes
-pub is_packed : IsPacked
-is_packed = record {
-  of_bytes = packed_bytes;
-  of_filler = length-filler_cells;
-  of_note = packed_note;
-  of_notes = packed_notes;
-  of_end = packed_end;
-  of_tx = packed_tx;
-}
-
 -- no cell stands before the first transaction
 pub first_place : FirstPlace
 unfolding place image image_from
@@ -257,16 +241,6 @@ place_grows format journal x y h =
     let P : List Tx → Type 0 = λ txs. length (image format (take (x - 3) journal)) ≤ length (image format txs) in
     subst P front (prefix_fits format (take (x - 3) journal) (drop (x - 3) (take (y - 3) journal)))
 
--- a cell is one of at most one transaction
-pub cells_apart : CellsApart
-cells_apart format journal x y cell p q = elim (cases_lt x y) as (λ _. x ≡ y) [
-  | inl lt ↦ absurd (omega (arith, place_grows format journal (x + 1) y (omega (arith, lt)), p.before, q.from))
-  | inr ge ↦ elim (cases_lt y x) as (λ _. x ≡ y) [
-    | inl lt ↦ absurd (omega (arith, place_grows format journal (y + 1) x (omega (arith, lt)), q.before, p.from))
-    | inr le ↦ omega (arith, ge, le)
-  ]
-]
-
 -- an element that is there: the front up to it, and how long that is
 taken : (xs : List Tx) (k : ℕ) (tx : Tx) → slice_get xs k ≡ Some tx → (take (suc k) xs ≡ take k xs ++ tx ∷ []) × (length (take k xs) ≡ k)
 taken [] k tx h = cc
@@ -274,7 +248,7 @@ taken (y ∷ xs) zero tx h = (cc, refl)
 taken (y ∷ xs) (suc k) tx h = let rest = taken xs k tx h in (ap (λ (ts : List Tx). y ∷ ts) rest.0, ap suc rest.1)
 
 -- the image up to the end of a transaction
-image_next : (format : Format) (journal : List Tx) (x : ℕ) (tx : Tx) → 3 ≤ x → entry journal x ≡ Some tx
+pub image_next : (format : Format) (journal : List Tx) (x : ℕ) (tx : Tx) → 3 ≤ x → entry journal x ≡ Some tx
     → image format (take ((x + 1) - 3) journal) ≡ image format (take (x - 3) journal) ++ tx_cells format x (place format journal x) tx
 unfolding place image_from
 image_next format journal x tx h e =
@@ -292,33 +266,6 @@ unfolding place
 next_place format journal x tx h e =
     let at = place format journal x in
     ap length (image_next format journal x tx h e) ∙ length-append (image format (take (x - 3) journal)) (tx_cells format x at tx) ∙ packed_tx format x at tx (room_place format journal x)
-
--- between the places of a transaction and of the next one lie its cells
-pub cells_of_each : CellsOfEach
-unfolding place
-cells_of_each format journal x tx h e =
-    let next = take ((x + 1) - 3) journal in
-    let rest = drop ((x + 1) - 3) journal in
-    let more = image_from format (3 + length next) (length (image format next)) rest in
-    let whole : image format journal ≡ image format next ++ more = ap (image format) (sym (take-append-drop ((x + 1) - 3) journal)) ∙ images_agree format next rest in
-    let front : take (length (image format next)) (image format journal) ≡ image format (take (x - 3) journal) ++ tx_cells format x (place format journal x) tx
-    = ap (take (length (image format next))) whole ∙ take_at (image format next) more (length (image format next)) refl ∙ image_next format journal x tx h e in
-    ap (drop (length (image format (take (x - 3) journal)))) front ∙ drop_at (image format (take (x - 3) journal)) (tx_cells format x (place format journal x) tx) (length (image format (take (x - 3) journal))) refl
-
-starts : (b : Bool) (at : ℕ) → is_page_start at ≡ b → is_page_start (cond b at (next_page at)) ≡ true
-starts true at e = e
-starts false at e = grind (arith, common_steps)
-
-ended_starts : (at : ℕ) → is_page_start (ended Aborted at) ≡ true
-unfolding ended
-ended_starts at = starts (is_page_start at) at refl
-
--- behind an aborted transaction a page begins
-pub aborted_ends : AbortedEnds
-unfolding after
-aborted_ends format journal x tx h e aborted =
-    let at = put_all format (place format journal x) (take tx.queued tx.notes) in
-    ap is_page_start (next_place format journal x tx h e ∙ ap (λ (fate : Fate). ended fate at) aborted) ∙ ended_starts at
 
 -- the place after transactions, by the arithmetic for each in turn
 pub folds : (format : Format) (x at : ℕ) (txs : List Tx) → HasRoom format at → at + length (image_from format x at txs) ≡ fold (after format) at txs
@@ -460,30 +407,3 @@ four_below a b c d p q r s (suc zero) = q
 four_below a b c d p q r s (suc (suc zero)) = r
 four_below a b c d p q r s (suc (suc (suc zero))) = s
 four_below a b c d p q r s (suc (suc (suc (suc i)))) = omega arith
-
-filled_cells-give : (bytes : List ℕ) → length bytes % 4 ≡ 0 → All (λ byte. byte < 256) bytes → bytes_of (filled_cells bytes) ≡ bytes
-unfolding filled_cells
-filled_cells-give [] whole below = refl
-filled_cells-give (a ∷ []) whole below = absurd (omega (arith, whole))
-filled_cells-give (a ∷ b ∷ []) whole below = absurd (omega (arith, whole))
-filled_cells-give (a ∷ b ∷ c ∷ []) whole below = absurd (omega (arith, whole))
-filled_cells-give (a ∷ b ∷ c ∷ d ∷ bytes) whole below =
-    let P : ℕ → Type 0 = λ n. n < 256 in
-    let from_b = All-tail P a (b ∷ c ∷ d ∷ bytes) below in
-    let from_c = All-tail P b (c ∷ d ∷ bytes) from_b in
-    let from_d = All-tail P c (d ∷ bytes) from_c in
-    let rest = All-tail P d bytes from_d in
-    let each = four_below a b c d (All-head P a (b ∷ c ∷ d ∷ bytes) below) (All-head P b (c ∷ d ∷ bytes) from_b) (All-head P c (d ∷ bytes) from_c) (All-head P d bytes from_d) in
-    let four : four_bytes (from_le_bytes w32 (a ∷ b ∷ c ∷ d ∷ [])) ≡ a ∷ b ∷ c ∷ d ∷ [] = le_bytes_4 (a ∷ b ∷ c ∷ d ∷ []) (from_le_bytes w32 (a ∷ b ∷ c ∷ d ∷ [])) refl each refl in
-    let more : bytes_of (filled_cells bytes) ≡ bytes = filled_cells-give bytes (omega (arith, whole)) rest in
-    ap (λ (front : List ℕ). front ++ bytes_of (filled_cells bytes)) four ∙ ap (λ (ys : List ℕ). a ∷ b ∷ c ∷ d ∷ ys) more
-
--- the bytes of an entry, read from its cells
-pub cells_give_bytes : CellsGiveBytes
-cells_give_bytes = record {
-  of_bytes = filled_cells-give;
-  of_entry = λ format note db xid pid h. filled_cells-give (spelled format note db xid pid)
-      (omega (arith, length-spelled format note db xid pid, whole_cells format (entry_length format note) (entry_whole format note).0)) (are_bytes.of_entry format note db xid pid h);
-  of_filler = λ format len xid pid h. filled_cells-give (filler format len xid pid)
-      (omega (arith, length-filler format len xid pid (omega (arith, least_within format, h.least)), whole_cells format len h.whole)) (are_bytes.of_filler format len xid pid);
-}

@@ -1,15 +1,14 @@
 -- Proofs of the laws of the pieces of a journal.
-use Rattle.std.proofs.Common.{◌≡◌, ℕ, zero, suc, ◌+◌, ◌-◌, ◌*◌, ◌/◌, ◌<◌, ◌≤◌, ◌^◌, Bool, true, false, cond, ◌&&◌, ◌==◌, List, [], ◌∷◌, ◌++◌, length, get_or, take, drop, replicate, map, Option, Some, None, slice_get, fold, sym, ap, ◌∙◌, refl, subst, arith, append_assoc, add-zero, zero-add, inl, inr}
+use Rattle.std.proofs.Common.{◌≡◌, ℕ, zero, suc, ◌+◌, ◌-◌, ◌*◌, ◌/◌, ◌<◌, ◌≤◌, ◌^◌, Bool, true, false, cond, ◌&&◌, ◌==◌, List, [], ◌∷◌, ◌++◌, length, take, drop, replicate, map, Option, Some, None, slice_get, fold, sym, ap, ◌∙◌, refl, subst, arith, append_assoc, add-zero, zero-add, inl, inr}
 use Rattle.std.specs.Prelude.{All, filter}
 use Rattle.std.specs.List.{flat_map}
-use Rattle.std.specs.List.Sorted.{IsNonDecreasingBy}
 use Rattle.std.specs.Int.{w32, from_le_bytes}
 use Rattle.std.proofs.lemmas.Bool.{cases_lt}
 use Rattle.std.proofs.lemmas.Bool.Decides.{nat_tests}
 use Rattle.std.proofs.lemmas.Grind.{flat_map-append, fold-append}
-use Rattle.std.proofs.lemmas.List.{append-nil, length-append, length-take, length-replicate, take_all, take-append-drop, drop_at, drop_all, drop-append-le, take-take, length-drop, get_or_append_left, get_or-append_right}
+use Rattle.std.proofs.lemmas.List.{append-nil, length-append, length-take, length-replicate, take_all, take-append-drop, drop_at, drop_all, drop-append-le, take-take, length-drop}
 use Rattle.std.proofs.lemmas.List.Elements.{All-nil, All-cons, All-head, All-tail, All-append, All-weaker, All-take, All-drop}
-use Rattle.std.proofs.lemmas.Nat.{from_le_bytes-to_le_bytes_4, le_bytes_4}
+use Rattle.std.proofs.lemmas.Nat.{from_le_bytes-to_le_bytes_4}
 use Rattle.pgn_base.specs.declared.format.Format.{Format}
 use Rattle.pgn_base.specs.declared.format.Format.TheVariants.{One, Two}
 use Rattle.pgn_base.specs.declared.note.Note.{Note}
@@ -20,14 +19,14 @@ use Rattle.pgn_journal.specs.declared.tx.Fate.TheVariants.{Committed, Aborted}
 use Rattle.pgn_journal.specs.Journal.{is_committed, entries_between, IsQueued}
 use Rattle.pgn_journal.specs.Due.{listens, delivery, delivered_by}
 use Rattle.pgn_base.specs.Notes.{IsNote}
-use Rattle.pgn_journal.specs.Bytes.{header_bytes, least_bytes, page_bytes, xid_bits, four_bytes, header, entry_length, spelled, filler, IsHead, IsEntryLength}
+use Rattle.pgn_journal.specs.Bytes.{header_bytes, least_bytes, xid_bits, four_bytes, header, entry_length, spelled, filler, IsHead, IsEntryLength}
 use Rattle.pgn_journal.specs.Packing.{Sender, sender_of, cells_left, bytes_left, next_page, fits, has_room, is_page_start, filled_cells, page_rest, entry_cells, filler_cells, note_cells, notes_cells, end_cells, tx_cells, image_from, image, place, put, put_all, after, after_bytes, after_rest, HasRoom}
 use Rattle.pgn_journal.specs.Pieces.{Piece, AnEntry, AFiller, piece_bytes, piece_length, db_of, number_of, lay, note_pieces, notes_pieces, end_pieces, tx_pieces, pieces_from, delivery_of, gives, give_all, has_committed, committed_by, TellsFates, QueuesAll, IsNumbered, IsReadable, IsWritten}
-use Rattle.pgn_journal.specs.laws.Pieces.{PiecesInTurn, ImageIsLaid, TransactionsArePacked, PiecesSplit, ImageDrops, JournalIsCut, PiecesGiveDue, PiecesGiveAllDue, FinishedQueueAll, JournalTellsFates, PiecesAreNumbered, NumbersRise, PiecesAreReadable, PieceAdvances, PieceHasBytes, PieceReadsBack, FirstCells, ThirdCell, NumbersGiveBytes, CellsHoldNumbers}
-use Rattle.pgn_journal.proofs.BeginsLaws.{begins-holds, begins-itself, begins-taken}
+use Rattle.pgn_journal.specs.laws.Pieces.{PiecesInTurn, ImageIsLaid, PiecesSplit, ImageDrops, JournalIsCut, PiecesGiveDue, PiecesGiveAllDue, FinishedQueueAll, PiecesAreNumbered, PiecesAreReadable, PieceAdvances, PieceHasBytes, FirstCells, ThirdCell, CellsHoldNumbers}
+use Rattle.pgn_journal.proofs.BeginsLaws.{begins-holds, begins-taken}
 use Rattle.pgn_journal.specs.Begins.{Begins}
-use Rattle.pgn_journal.proofs.BytesLemmas.{length-header, length-spelled, length-filler, entry_lengths, are_bytes, reads_back, none_is_filler, filler_reads_back}
-use Rattle.pgn_journal.proofs.PackingLemmas.{length-filled_cells, length-page_rest, least_within, whole_cells, room_next, room_put, room_put_all, room_after, room_after_bytes, length-filler_cells, packed_note, packed_notes, packed_tx, folds, place_folds, room_place, images_agree, pages_hold, four_below}
+use Rattle.pgn_journal.proofs.BytesLemmas.{length-header, length-spelled, length-filler, entry_lengths, are_bytes}
+use Rattle.pgn_journal.proofs.PackingLemmas.{length-filled_cells, length-page_rest, least_within, whole_cells, room_next, room_put, room_put_all, room_after, room_after_bytes, length-filler_cells, packed_note, packed_notes, packed_tx, folds, place_folds, room_place, images_agree, pages_hold}
 
 -- the cells of two lists of pieces, one behind the other
 pub pieces_in_turn : PiecesInTurn
@@ -120,10 +119,6 @@ image_is_laid format x at (tx ∷ txs) room =
     sym (laid_both format at (after format at tx) (tx_pieces format x at tx) (pieces_from format (x + 1) (after format at tx) txs) (tx_cells format x at tx) (image_from format (x + 1) (at + length (tx_cells format x at tx)) txs)
     (laid_tx format x at tx room) end
     (sym (image_is_laid format (x + 1) (after format at tx) txs (room_after format at tx room)) ∙ ap (λ n. image_from format (x + 1) n txs) (sym end)))
-
--- the arithmetic counts the cells of all transactions
-pub transactions_are_packed : TransactionsArePacked
-transactions_are_packed = folds
 
 -- the pieces of two lists of transactions, one behind the other
 pub pieces_split : PiecesSplit
@@ -267,17 +262,13 @@ dropped (suc n) [] k = sym (let past : slice_get (let none : List Tx = [] in non
 dropped (suc n) (x ∷ xs) k = dropped n xs k ∙ ap (slice_get (x ∷ xs)) (let sum : suc (n + k) ≡ suc n + k = omega arith in sum)
 
 -- the fates of what is left of a journal's front
-told_part : (journal front : List Tx) (m : ℕ) → Begins front journal → 3 ≤ m → TellsFates (committed_by journal) m (drop (m - 3) front)
+pub told_part : (journal front : List Tx) (m : ℕ) → Begins front journal → 3 ≤ m → TellsFates (committed_by journal) m (drop (m - 3) front)
 told_part journal front m begins low = record {
   each = λ k tx e.
       let place : (m + k) - 3 ≡ (m - 3) + k = omega arith in
       let found : slice_get journal ((m - 3) + k) ≡ Some tx = begins-holds front journal ((m - 3) + k) tx begins (sym (dropped (m - 3) front k) ∙ e) in
       ap (λ n. has_committed (slice_get journal n)) place ∙ ap has_committed found;
 }
-
--- the fates of a journal's transactions are those that it tells by their numbers
-pub journal_tells_fates : JournalTellsFates
-journal_tells_fates journal m low = told_part journal journal m (begins-itself journal) low
 
 -- what is due between two numbers is what the pieces there give
 pub pieces_give_all_due : PiecesGiveAllDue
@@ -287,7 +278,7 @@ pieces_give_all_due format journal m n at db channels queue low =
     (told_part journal front m (begins-taken (n - 3) journal) low)
 
 -- a piece of the transaction with this number
-OfNumber : ℕ → Piece → Type 0
+pub OfNumber : ℕ → Piece → Type 0
 OfNumber x piece = number_of piece ≡ x
 
 numbers_note : (format : Format) (sender : Sender) (at : ℕ) (note : Note) → All (OfNumber sender.xid) (note_pieces format sender at note)
@@ -316,7 +307,8 @@ numbers_end sender Aborted at =
     let filler = AFiller (bytes_left at) sender in
     elim (is_page_start at) as (λ b. All P (cond b [] (filler ∷ []))) [ true ↦ All-nil P | false ↦ All-cons P filler [] refl (All-nil P) ]
 
-numbers_tx : (format : Format) (x at : ℕ) (tx : Tx) → All (OfNumber x) (tx_pieces format x at tx)
+-- the pieces of a transaction have its number
+pub numbers_tx : (format : Format) (x at : ℕ) (tx : Tx) → All (OfNumber x) (tx_pieces format x at tx)
 unfolding tx_pieces
 numbers_tx format x at tx =
     let sender = sender_of x tx in
@@ -361,43 +353,6 @@ journal_is_cut = record {
       let P : ℕ → Type 0 = λ end. All (IsNumbered m end) (pieces_from format m at part) in
       subst P (part_counts journal m n low le high) (pieces_are_numbered format m at part);
 }
-
--- numbers that are the same, and then others that rise and are no smaller
-rise_append : (x : ℕ) (pieces more : List Piece) → All (OfNumber x) pieces → All (λ piece. x ≤ number_of piece) more
-    → IsNonDecreasingBy number_of more → IsNonDecreasingBy number_of (pieces ++ more)
-unfolding OfNumber
-rise_append x pieces more same above rise = λ i j d le lt.
-    let n = length pieces in
-    let both : j < n + length more = omega (arith, lt, length-append pieces more) in
-    elim (cases_lt j n) as (λ _. number_of (get_or (pieces ++ more) i d) ≤ number_of (get_or (pieces ++ more) j d)) [
-      | inl here ↦
-          let a : number_of (get_or (pieces ++ more) i d) ≡ x = ap number_of (get_or_append_left pieces more d i (omega (arith, here))) ∙ same i d (omega (arith, here)) in
-          let b : number_of (get_or (pieces ++ more) j d) ≡ x = ap number_of (get_or_append_left pieces more d j here) ∙ same j d here in
-          omega (arith, a, b)
-      | inr later ↦
-          let b : number_of (get_or (pieces ++ more) j d) ≡ number_of (get_or more (j - n) d) = ap number_of (get_or-append_right pieces more n j d refl later) in
-          elim (cases_lt i n) as (λ _. number_of (get_or (pieces ++ more) i d) ≤ number_of (get_or (pieces ++ more) j d)) [
-            | inl first ↦
-                let a : number_of (get_or (pieces ++ more) i d) ≡ x = ap number_of (get_or_append_left pieces more d i first) ∙ same i d first in
-                let up : x ≤ number_of (get_or more (j - n) d) = above (j - n) d (omega (arith, both, later)) in
-                omega (arith, a, b, up)
-            | inr past ↦
-                let a : number_of (get_or (pieces ++ more) i d) ≡ number_of (get_or more (i - n) d) = ap number_of (get_or-append_right pieces more n i d refl past) in
-                let up : number_of (get_or more (i - n) d) ≤ number_of (get_or more (j - n) d) = rise (i - n) (j - n) d (omega (arith, le)) (omega (arith, both, later)) in
-                omega (arith, a, b, up)
-          ]
-    ]
-
--- the numbers of pieces do not fall
-pub numbers_rise : NumbersRise
-unfolding pieces_from
-numbers_rise format x at [] = λ i j d le lt. absurd (omega (arith, lt))
-numbers_rise format x at (tx ∷ txs) =
-    let here = tx_pieces format x at tx in
-    let later = pieces_from format (x + 1) (after format at tx) txs in
-    rise_append x here later (numbers_tx format x at tx)
-    (All-weaker (IsNumbered (x + 1) ((x + 1) + length txs)) (λ piece. x ≤ number_of piece) (λ piece h. omega (arith, h.low)) later (pieces_are_numbered format (x + 1) (after format at tx) txs))
-    (numbers_rise format (x + 1) (after format at tx) txs)
 
 -- the head of the shortest entry is less than the whole of it
 head_short : (format : Format) → header_bytes format < least_bytes format
@@ -497,7 +452,8 @@ filler_long format len xid pid long =
     let whole : length (head ++ replicate (len - length head) 0) ≡ length head + (len - length head) = simp (length-append, length-replicate) in
     omega (arith, head_short format, long, front, whole)
 
-stated : (format : Format) (piece : Piece) → IsReadable format piece → length (piece_bytes format piece) ≡ piece_length format piece
+-- a readable piece has as many bytes as it states
+pub stated : (format : Format) (piece : Piece) → IsReadable format piece → length (piece_bytes format piece) ≡ piece_length format piece
 stated format (AnEntry note sender) sound = length-spelled format note sender.db sender.xid sender.pid
 stated format (AFiller len sender) sound = length-filler format len sender.xid sender.pid (filler_long format len sender.xid sender.pid sound.long.least)
 
@@ -508,28 +464,6 @@ below format (AFiller len sender) sound = are_bytes.of_filler format len sender.
 -- a piece that can be read back has its stated length, in bytes
 pub piece_has_bytes : PieceHasBytes
 piece_has_bytes = record { stated = stated; whole = λ format piece sound. whole_cells format (length (piece_bytes format piece)) sound.long.whole; below = below }
-
--- the same sender
-same_sender : (s t : Sender) → s.db ≡ t.db → s.xid ≡ t.xid → s.pid ≡ t.pid → s ≡ t
-same_sender s t db xid pid =
-    ap (λ (n : ℕ). let one : Sender = record { db = n; xid = s.xid; pid = s.pid } in one) db
-    ∙ ap (λ (n : ℕ). let one : Sender = record { db = t.db; xid = n; pid = s.pid } in one) xid
-    ∙ ap (λ (n : ℕ). let one : Sender = record { db = t.db; xid = t.xid; pid = n } in one) pid
-
--- the length of a filler that is read back
-filler_fits : (format : Format) (len : ℕ) (sender : Sender) → IsReadable format (AFiller len sender) → len ≤ page_bytes
-filler_fits format len sender sound = omega (arith, stated format (AFiller len sender) sound, sound.long.fits)
-
--- one piece alone is spelled by the bytes that begin with it
-pub piece_reads_back : PieceReadsBack
-piece_reads_back format (AnEntry a s) (AnEntry b t) rest rest' p q e =
-    let same = reads_back format a b s.db t.db s.xid t.xid s.pid t.pid rest rest' p.content.0 q.content.0 p.head q.head e in
-    ((same.same_note, same_sender s t same.same_db same.same_xid same.same_pid), same.same_rest)
-piece_reads_back format (AnEntry a s) (AFiller len t) rest rest' p q e = absurd (none_is_filler format a s.db s.xid s.pid len t.xid t.pid rest rest' p.content.1 p.head.db_fits e)
-piece_reads_back format (AFiller len s) (AnEntry b t) rest rest' p q e = absurd (none_is_filler format b t.db t.xid t.pid len s.xid s.pid rest' rest q.content.1 q.head.db_fits (sym e))
-piece_reads_back format (AFiller len s) (AFiller len' t) rest rest' p q e =
-    let same = filler_reads_back format len len' s.xid t.xid s.pid t.pid rest rest' (filler_fits format len s p) (filler_fits format len' t q) p.head q.head e in
-    ((same.same_len, same.same_xid, same.same_pid), same.same_rest)
 
 -- a cell whose bytes spell a number
 cell_of : (n : ℕ) → n < 2 ^ 32 → Some (Some (from_le_bytes w32 (four_bytes n))) ≡ Some (Some n)
@@ -566,27 +500,6 @@ third_cell One (AnEntry note sender) sound small = cell_of sender.xid small
 third_cell Two (AnEntry note sender) sound small = cell_of sender.xid small
 third_cell One (AFiller len sender) sound small = cell_of sender.xid small
 third_cell Two (AFiller len sender) sound small = cell_of sender.xid small
-
--- the numbers in the cells of bytes tell the bytes
-pub numbers_give_bytes : NumbersGiveBytes
-unfolding filled_cells
-numbers_give_bytes [] [] whole small long holds = refl
-numbers_give_bytes [] (n ∷ numbers) whole small long holds = absurd (omega (arith, long))
-numbers_give_bytes (a ∷ []) numbers whole small long holds = absurd (omega (arith, whole))
-numbers_give_bytes (a ∷ b ∷ []) numbers whole small long holds = absurd (omega (arith, whole))
-numbers_give_bytes (a ∷ b ∷ c ∷ []) numbers whole small long holds = absurd (omega (arith, whole))
-numbers_give_bytes (a ∷ b ∷ c ∷ d ∷ bytes) [] whole small long holds = absurd (omega (arith, long))
-numbers_give_bytes (a ∷ b ∷ c ∷ d ∷ bytes) (n ∷ numbers) whole small long holds =
-    let P : ℕ → Type 0 = λ byte. byte < 256 in
-    let from_b = All-tail P a (b ∷ c ∷ d ∷ bytes) small in
-    let from_c = All-tail P b (c ∷ d ∷ bytes) from_b in
-    let from_d = All-tail P c (d ∷ bytes) from_c in
-    let rest = All-tail P d bytes from_d in
-    let each = four_below a b c d (All-head P a (b ∷ c ∷ d ∷ bytes) small) (All-head P b (c ∷ d ∷ bytes) from_b) (All-head P c (d ∷ bytes) from_c) (All-head P d bytes from_d) in
-    let same : n ≡ from_le_bytes w32 (a ∷ b ∷ c ∷ d ∷ []) = holds 0 (from_le_bytes w32 (a ∷ b ∷ c ∷ d ∷ [])) refl in
-    let four : four_bytes n ≡ a ∷ b ∷ c ∷ d ∷ [] = le_bytes_4 (a ∷ b ∷ c ∷ d ∷ []) n refl each same in
-    let more : flat_map four_bytes numbers ≡ bytes = numbers_give_bytes bytes numbers (omega (arith, whole)) rest (omega (arith, long)) (λ k m e. holds (suc k) m e) in
-    ap (λ (front : List ℕ). front ++ flat_map four_bytes numbers) four ∙ ap (λ (ys : List ℕ). a ∷ b ∷ c ∷ d ∷ ys) more
 
 -- four bytes and the number in their cell spell the same
 pub cells_hold_numbers : CellsHoldNumbers

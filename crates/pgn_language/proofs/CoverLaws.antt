@@ -5,7 +5,7 @@ use Rattle.std.specs.List.{prefix_len}
 use Rattle.std.specs.Char.{is_ascii_digit}
 use Rattle.std.proofs.lemmas.Bool.{eqb-true, eq-eqb, ne_eqb, both_ways, cases_Bool, and_parts, false_from_ne_true}
 use Rattle.std.proofs.lemmas.Bool.Decides.{nat_tests}
-use Rattle.std.proofs.lemmas.List.{take-append-drop, drop-drop, drop_at}
+use Rattle.std.proofs.lemmas.List.{take-append-drop}
 use Rattle.std.proofs.lemmas.List.Folds.{length-prefix_len}
 use Rattle.std.proofs.lemmas.List.Elements.{All-nil, All-cons, All-head, All-tail}
 use Rattle.std.proofs.lemmas.List.Sums.{take_while-cons}
@@ -13,7 +13,6 @@ use Rattle.pgn_language.specs.Quotes.{doubled_byte, quoted}
 use Rattle.pgn_language.specs.Tokens.{Lexeme, Word, Quoted, Literal, Number, Sign, Wrong, Token, tokens, tokens_from, Inside, closed, Kind, ABlank, AComment, AWord, ANumber, ASign, AQuoted, ALiteral, ANothing, kind, Front, Blank, Comment, OneToken, NoToken, front, quoted_front, literal_front, is_blank, begins_comment, begins_word, goes_on_word, is_sign}
 use Rattle.pgn_language.specs.laws.Tokens.{IsClosed, written, NoneFollows, IsWhole, NothingStands, Covers, Ended, Commented, Spaced, Tokened, Stuck}
 use Rattle.pgn_language.proofs.TokenLaws.{closed-spells, closed-doubled}
-use Rattle.pgn_language.proofs.SlotLaws.{tokens-skip}
 
 -- the longest front of bytes that pass a test
 while-true : (test : ℕ → Bool) (b : ℕ) (bytes : List ℕ) → test b ≡ true → take_while test (b ∷ bytes) ≡ b ∷ take_while test bytes
@@ -83,7 +82,7 @@ first_number a b c d e f g ha hb hc hd = rw (ha, hb, hc, hd) refl
 first_sign : (a b c d e f g : Bool) → a ≡ false → b ≡ false → c ≡ false → d ≡ false → e ≡ true → first_kind a b c d e f g ≡ ASign
 first_sign a b c d e f g ha hb hc hd he = rw (ha, hb, hc, hd, he) refl
 
-no_comment : (b : ℕ) (bytes : List ℕ) → (b == 45) ≡ false → begins_comment b bytes ≡ false
+pub no_comment : (b : ℕ) (bytes : List ℕ) → (b == 45) ≡ false → begins_comment b bytes ≡ false
 no_comment b [] h = refl
 no_comment b (c ∷ bytes) h = rw h refl
 
@@ -123,12 +122,14 @@ kind-literal : (bytes : List ℕ) → kind 39 bytes ≡ ALiteral
 kind-literal [] = refl
 kind-literal (c ∷ bytes) = refl
 
-front-blank : (b : ℕ) (bytes : List ℕ) → is_blank b ≡ true → front (kind b bytes) b bytes ≡ Blank
+-- what stands at the front of a blank
+pub front-blank : (b : ℕ) (bytes : List ℕ) → is_blank b ≡ true → front (kind b bytes) b bytes ≡ Blank
 front-blank b bytes h =
     let k : kind b bytes ≡ ABlank = ap (λ t. first_kind t (begins_comment b bytes) (begins_word b) (is_ascii_digit b) (is_sign b) (b == 34) (b == 39)) h in
     ap (λ (x : Kind). front x b bytes) k
 
-front-comment : (b : ℕ) (bytes : List ℕ) → begins_comment b bytes ≡ true → front (kind b bytes) b bytes ≡ Comment
+-- and of a comment
+pub front-comment : (b : ℕ) (bytes : List ℕ) → begins_comment b bytes ≡ true → front (kind b bytes) b bytes ≡ Comment
 front-comment b bytes h =
     let blank : is_blank b ≡ false = ap is_blank (comment_byte b bytes h) in
     let k : kind b bytes ≡ AComment =
@@ -154,19 +155,20 @@ closed-quoted quote text rest h =
     ap (closed quote) (append_assoc (flat_map (doubled_byte quote) text) (quote ∷ []) rest) ∙ closed-doubled quote text rest (none-get quote rest h)
 
 -- what stands at the front of some bytes
-abbrev front_of : List ℕ → Front
+abbrev pub front_of : List ℕ → Front
 front_of [] = NoToken
 front_of (b ∷ bytes) = front (kind b bytes) b bytes
 
 -- a token is at the front, and takes so many bytes after its first
-abbrev Leads : List ℕ → Lexeme → Type 0
+abbrev pub Leads : List ℕ → Lexeme → Type 0
 Leads bytes lexeme = (more : ℕ) × (front_of bytes ≡ OneToken lexeme more) × (length (written lexeme) ≡ more + 1)
 
 quoted_front-some : (text : List ℕ) (size : ℕ) → text ≢ [] → quoted_front (Some (record { text = text; size = size })) ≡ OneToken (Quoted text) size
 quoted_front-some [] size h = absurd (h refl)
 quoted_front-some (c ∷ text) size h = refl
 
-whole-leads : (lexeme : Lexeme) (rest : List ℕ) → IsWhole lexeme rest → Leads (written lexeme ++ rest) lexeme
+-- a whole token leads the text that it begins
+pub whole-leads : (lexeme : Lexeme) (rest : List ℕ) → IsWhole lexeme rest → Leads (written lexeme ++ rest) lexeme
 whole-leads (Word []) rest h = absurd h.0
 whole-leads (Word (b ∷ text)) rest h = (
   length text,
@@ -195,7 +197,7 @@ whole-leads (Sign sign) rest h = (0, ap (λ (k : Kind). front k sign rest) (kind
 whole-leads Wrong rest h = absurd h
 
 -- what a front says of the bytes
-abbrev Says : ℕ → List ℕ → Front → Type 0
+abbrev pub Says : ℕ → List ℕ → Front → Type 0
 Says b bytes Blank = is_blank b ≡ true
 Says b bytes Comment = begins_comment b bytes ≡ true
 Says b bytes (OneToken lexeme more) = IsWhole lexeme (drop more bytes) × (b ∷ bytes ≡ written lexeme ++ drop more bytes) × (length (written lexeme) ≡ more + 1)
@@ -236,7 +238,8 @@ kind-says AQuoted b bytes h = subst (λ (x : ℕ). Says x bytes (quoted_front (c
 kind-says ALiteral b bytes h = subst (λ (x : ℕ). Says x bytes (literal_front (closed x bytes))) (sym (eqb-true b 39 h)) (literal_front-says bytes (closed 39 bytes) refl)
 kind-says ANothing b bytes h = tt
 
-front-says : (b : ℕ) (bytes : List ℕ) → Says b bytes (front (kind b bytes) b bytes)
+-- the front says what stands there
+pub front-says : (b : ℕ) (bytes : List ℕ) → Says b bytes (front (kind b bytes) b bytes)
 front-says b bytes = kind-says (kind b bytes) b bytes (kind-tells b bytes)
 
 -- a front that is no token has nothing
@@ -249,15 +252,8 @@ nothing-stands b bytes e = record {
       let p : OneToken lexeme leads.0 ≡ NoToken = sym leads.1 ∙ sym (ap front_of same) ∙ e in absurd (cc);
 }
 
--- where nothing stands there is no token
-stands-nothing : (b : ℕ) (bytes : List ℕ) (f : Front) → Says b bytes f → NothingStands b bytes → f ≡ NoToken
-stands-nothing b bytes Blank s n = absurd (both_ways (is_blank b) n.no_blank s)
-stands-nothing b bytes Comment s n = absurd (both_ways (begins_comment b bytes) n.no_comment s)
-stands-nothing b bytes (OneToken lexeme more) s n = absurd (n.no_token lexeme (drop more bytes) s.1 s.0)
-stands-nothing b bytes NoToken s n = refl
-
 -- the tokens of bytes after the first, from what stands at the front
-abbrev after_front : ℕ → List ℕ → Front → List Token
+abbrev pub after_front : ℕ → List ℕ → Front → List Token
 after_front at bytes f = elim f [
   | Blank ↦ tokens_from (at + 1) 0 bytes
   | Comment ↦ []
@@ -287,25 +283,3 @@ cover-from at zero (b ∷ bytes) = subst (λ (n : ℕ). Covers n (b ∷ bytes) (
 -- the tokens of a text cover it from its first byte on
 pub tokens-cover : (text : List ℕ) → Covers 0 text (tokens text)
 tokens-cover text = cover-from 0 0 text
-
-front-from : (at : ℕ) (bytes : List ℕ) (lexeme : Lexeme) (more : ℕ) → front_of bytes ≡ OneToken lexeme more → tokens_from at 0 bytes ≡ record { lexeme = lexeme; at = at } ∷ tokens_from (at + 1) more (drop 1 bytes)
-front-from at [] lexeme more e = absurd (cc)
-front-from at (b ∷ bytes) lexeme more e = ap (after_front at bytes) e
-
-token-from : (at : ℕ) (lexeme : Lexeme) (rest : List ℕ) → IsWhole lexeme rest → tokens_from at 0 (written lexeme ++ rest) ≡ record { lexeme = lexeme; at = at } ∷ tokens_from (at + length (written lexeme)) 0 rest
-token-from at lexeme rest h =
-    let leads : Leads (written lexeme ++ rest) lexeme = whole-leads lexeme rest h in
-    let past : drop leads.0 (drop 1 (written lexeme ++ rest)) ≡ rest =
-    drop-drop leads.0 1 (written lexeme ++ rest) ∙ drop_at (written lexeme) rest (1 + leads.0) (omega (arith, leads.2)) in
-    let after : tokens_from (at + 1) leads.0 (drop 1 (written lexeme ++ rest)) ≡ tokens_from (at + length (written lexeme)) 0 rest =
-    tokens-skip (at + 1) leads.0 (drop 1 (written lexeme ++ rest)) ∙ ap (λ (l : List ℕ). tokens_from ((at + 1) + leads.0) 0 l) past ∙ ap (λ (n : ℕ). tokens_from n 0 rest) (omega (arith, leads.2)) in
-    front-from at (written lexeme ++ rest) lexeme leads.0 leads.1 ∙ ap (λ (ts : List Token). record { lexeme = lexeme; at = at } ∷ ts) after
-
--- tokens that cover bytes are those that are cut from them
-pub one-cover : (at : ℕ) (bytes : List ℕ) (some : List Token) → Covers at bytes some → some ≡ tokens_from at 0 bytes
-one-cover at _ _ (Ended _) = refl
-one-cover at _ _ (Commented _ b bytes h) = sym (ap (after_front at bytes) (front-comment b bytes h))
-one-cover at _ some (Spaced _ b bytes _ h next) = one-cover (at + 1) bytes some next ∙ sym (ap (after_front at bytes) (front-blank b bytes h))
-one-cover at _ _ (Tokened _ lexeme rest some h next) =
-    ap (λ (ts : List Token). record { lexeme = lexeme; at = at } ∷ ts) (one-cover (at + length (written lexeme)) rest some next) ∙ sym (token-from at lexeme rest h)
-one-cover at _ _ (Stuck _ b bytes n) = sym (ap (after_front at bytes) (stands-nothing b bytes (front (kind b bytes) b bytes) (front-says b bytes) n))

@@ -68,7 +68,8 @@ one-completes (form ∷ forms) lexemes h = elim (or_cases (prefix_fits form.slot
   | inr e ↦ let rest : (more : List Lexeme) × (command : Command) × IsOneOf forms (lexemes ++ more) command = one-completes forms lexemes e in (rest.0, rest.1, inr rest.2)
 ]
 
-begin_one-front : (forms : List Form) (lexemes more : List Lexeme) → begin_one forms (lexemes ++ more) ≡ true → begin_one forms lexemes ≡ true
+-- what begins a form is begun by its front
+pub begin_one-front : (forms : List Form) (lexemes more : List Lexeme) → begin_one forms (lexemes ++ more) ≡ true → begin_one forms lexemes ≡ true
 begin_one-front [] lexemes more h = absurd (false≢true h)
 begin_one-front (form ∷ forms) lexemes more h = elim (or_cases (prefix_fits form.slots (lexemes ++ more)) (begin_one forms (lexemes ++ more)) h) [
   | inl e ↦ or_left _ _ (prefix_fits-front form.slots lexemes more e)
@@ -244,10 +245,6 @@ reading-reads text =
 pub reading-computes : (text : List ℕ) (command : Command) → ReadsAs text command ↔ (reading text ≡ command)
 reading-computes text command = (reads-computes text command, λ e. subst (λ (c : Command). ReadsAs text c) e (reading-reads text))
 
--- a text has a reading, and no other one
-pub one-reading : (text : List ℕ) → (command : Command) × ReadsAs text command × ((other : Command) → ReadsAs text other → other ≡ command)
-one-reading text = (reading text, reading-reads text, λ other h. sym (reads-computes text other h))
-
 -- tokens begin one of these lists of slots, and are one of them
 abbrev any_front : List (List Slot) → List Lexeme → Bool
 any_front ways lexemes = list_any (λ slots. prefix_fits slots lexemes) ways
@@ -324,31 +321,3 @@ pub followers-done : (lexemes : List Lexeme) → ((command : Command) × IsOneOf
 followers-done lexemes =
     let same : any_whole table_slots lexemes ≡ list_any is_done (followers table_slots lexemes) = any_whole-followers table_slots lexemes in
     (λ h. sym same ∙ one-whole table lexemes h.0 h.1, λ h. whole-one table lexemes (same ∙ h))
-
--- the front of tokens that begin a form begins one
-pub front-begins : (front rest : List Lexeme) → BeginsForm (front ++ rest) → BeginsForm front
-front-begins front rest h = (begins-computes front).1 (begin_one-front table front rest ((begins-computes (front ++ rest)).0 h))
-
-wrong-fits_slot : (slot : Slot) → fits_slot slot Wrong ≡ false
-wrong-fits_slot (Key word) = refl
-wrong-fits_slot Name = refl
-wrong-fits_slot Quote = refl
-wrong-fits_slot Count = refl
-wrong-fits_slot (Punct sign) = refl
-
-wrong-front : (slots : List Slot) (front rest : List Lexeme) → prefix_fits slots (front ++ Wrong ∷ rest) ≡ true → ⊥
-wrong-front [] [] rest h = false≢true h
-wrong-front [] (t ∷ front) rest h = false≢true h
-wrong-front (p ∷ ps) [] rest h = both_ways (fits_slot p Wrong) (wrong-fits_slot p) (and_parts _ _ h).0
-wrong-front (p ∷ ps) (t ∷ front) rest h = wrong-front ps front rest (and_parts _ _ h).1
-
-wrong-one : (forms : List Form) (front rest : List Lexeme) → begin_one forms (front ++ Wrong ∷ rest) ≡ true → ⊥
-wrong-one [] front rest h = false≢true h
-wrong-one (form ∷ forms) front rest h = elim (or_cases (prefix_fits form.slots (front ++ Wrong ∷ rest)) (begin_one forms (front ++ Wrong ∷ rest)) h) [
-  | inl e ↦ wrong-front form.slots front rest e
-  | inr e ↦ wrong-one forms front rest e
-]
-
--- tokens with a wrong one among them begin no form
-pub wrong-fits_nowhere : (front rest : List Lexeme) → BeginsForm (front ++ Wrong ∷ rest) → ⊥
-wrong-fits_nowhere front rest h = wrong-one table front rest ((begins-computes (front ++ Wrong ∷ rest)).0 h)

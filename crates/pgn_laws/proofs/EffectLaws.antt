@@ -6,7 +6,7 @@ use Rattle.pgn_base.specs.declared.command.Command.{Command}
 use Rattle.pgn_answers.specs.Savepoints.{Change}
 use Rattle.pgn_answers.specs.Answers.{Outcome, Commits, Replies, Refuses, Silent, GivesChannels, GivesUsage, answer, next_state, list_after}
 use Rattle.pgn_answers.specs.laws.Answers.{is_idle, is_in_block, is_commit, is_transaction, ends_by_commit}
-use Rattle.pgn_answers.proofs.AnswerLemmas.{what-commits}
+use Rattle.pgn_laws.proofs.AnswerLaws.{what-commits}
 use Rattle.pgn_block.specs.Effects.{effect_of}
 use Rattle.pgn_laws.specs.Block.{hands_out}
 

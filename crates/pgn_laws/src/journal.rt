@@ -30,7 +30,7 @@ pub fn begins<T>()
 {}
 
 /// What is due to a reader.
-#[tactic(auto, using(pgn_journal::proofs::DueLaws::due_laws))]
+#[tactic(auto, using(crate::proofs::DueLaws::due_laws))]
 pub fn due()
     // What is due up to a number is what is due up to one before it, and then from there on.
     ensures splits { DueSplits }

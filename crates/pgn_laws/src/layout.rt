@@ -14,7 +14,7 @@ pub fn batches()
 {}
 
 /// A writer that goes from batch to batch.
-#[tactic(auto, using(pgn_layout::proofs::PlacingLaws::placing_laws))]
+#[tactic(auto, using(crate::proofs::PlacingLaws::placing_laws))]
 pub fn placing()
     // It begins with nothing placed.
     ensures begins { PlacingBegins }
@@ -33,7 +33,7 @@ pub fn placing()
 {}
 
 /// The statuses in a word.
-#[tactic(auto, using(pgn_layout::proofs::StatusLaws::status_laws))]
+#[tactic(auto, using(crate::proofs::StatusLaws::status_laws))]
 pub fn statuses()
     // In an empty word each transaction is in progress.
     ensures none_is_set { NoneIsSet }

@@ -2,7 +2,7 @@
 use Rattle.std.proofs.Common.{◌≡◌, ℕ, zero, suc, ◌+◌, ◌<◌, ◌≤◌, true, false, cond, List, [], ◌∷◌, ◌++◌, length, take, drop, Option, sym, ap, ◌∙◌, refl, subst, arith, append_assoc, inl, inr}
 use Rattle.std.specs.Prelude.{All, IsSomeAnd, slice_get}
 use Rattle.std.proofs.Math.Seq.{take-add}
-use Rattle.std.proofs.lemmas.List.{append-nil, length-append, length-drop, drop-drop, drop_all, take_all}
+use Rattle.std.proofs.lemmas.List.{append-nil, length-append, length-drop, drop-drop, drop_all}
 use Rattle.std.proofs.lemmas.List.Elements.{All-head, All-drop}
 use Rattle.std.proofs.lemmas.Bool.Decides.{nat_tests}
 use Rattle.std.proofs.lemmas.Grind.{fold-append}
@@ -18,10 +18,9 @@ use Rattle.pgn_journal.specs.Pieces.{draft}
 use Rattle.pgn_journal.proofs.PackingLemmas.{room_next, room_put_all, length-filler_cells, packed_notes, pages_hold, notes_in_turn, fits_next}
 use Rattle.pgn_journal.proofs.DraftLaws.{one_more_image, draft_at_page_start}
 use Rattle.pgn_layout.specs.declared.batch.Batch.{Batch}
-use Rattle.pgn_layout.specs.Batches.{FirstIsTooLong, IsPlanned, Whole, Filled, padded_to, batch_cells, AreBatches, batches_end, with_batches, IsPlaced, AfterNotes, AfterFiller, StandAfterNotes, StandAfterFiller}
-use Rattle.pgn_layout.specs.Laws.{PlacingBegins, PlacingStands, PlacingGoesOn, PlacingEnds, HasImage, PlacedIsDraft, PlacedIsCutShort, BatchesArePut}
+use Rattle.pgn_layout.specs.Batches.{FirstIsTooLong, IsPlanned, Whole, Filled, padded_to, batch_cells, IsPlaced, AfterNotes, AfterFiller, StandAfterNotes, StandAfterFiller}
+use Rattle.pgn_layout.specs.Laws.{PlacingBegins, PlacingStands, PlacingGoesOn, HasImage, PlacedIsDraft, PlacedIsCutShort}
 use Rattle.pgn_layout.proofs.RunLaws.{notes_move}
-use Rattle.pgn_layout.proofs.FillerLaws.{batches_fillers, batches_ends}
 use Rattle.pgn_layout.proofs.BatchLaws.{whole_padded, filled_padded, same_page}
 
 -- with none placed the cells are those from before
@@ -197,22 +196,8 @@ placing_goes_on format sender before notes count at cells batch room valid place
     (stands_room format sender before notes count at cells room placed) room valid placed planned
 
 -- nothing is left of notifications that are all placed
-none_left : (format : Format) (at : ℕ) (notes : List Note) → FirstIsTooLong format at (drop (length notes) notes) → ⊥
+pub none_left : (format : Format) (at : ℕ) (notes : List Note) → FirstIsTooLong format at (drop (length notes) notes) → ⊥
 none_left format at notes past = subst (λ (ns : List Note). FirstIsTooLong format at ns) (drop_all (length notes) notes (omega arith)) past
-
-all_end : (format : Format) (sender : Sender) (before : List (Option ℕ)) (notes : List Note) (at : ℕ) (cells : List (Option ℕ))
-    → IsPlaced format sender before notes (length notes) at cells → at ≡ put_all format (length before) notes
-all_end format sender before notes at cells (AfterNotes stands) = stands.ends ∙ ap (put_all format (length before)) (take_all (length notes) notes (omega arith))
-all_end format sender before notes at cells (AfterFiller stands) = absurd (none_left format _ notes stands.too_long)
-
-all_cells : (format : Format) (sender : Sender) (before : List (Option ℕ)) (notes : List Note) (at : ℕ) (cells : List (Option ℕ))
-    → IsPlaced format sender before notes (length notes) at cells → cells ≡ before ++ notes_cells format sender (length before) notes
-all_cells format sender before notes at cells (AfterNotes stands) =
-    stands.cells_are ∙ ap (λ ns. before ++ notes_cells format sender (length before) ns) (take_all (length notes) notes (omega arith))
-all_cells format sender before notes at cells (AfterFiller stands) = absurd (none_left format _ notes stands.too_long)
-
-pub placing_ends : PlacingEnds
-placing_ends = record { at_end = all_end; cells = all_cells }
 
 -- where a filler is needed no page begins
 no_start : (format : Format) (at : ℕ) (notes : List Note) → All IsNote notes → FirstIsTooLong format at notes → is_page_start at ≡ false
@@ -271,40 +256,3 @@ placed_is_cut_short format sender before session db notes count at cells (AfterN
     record { aborted = refl; some = refl; not_all = left; stopped = inl (ap is_page_start (sym stands.ends) ∙ starts) }
 placed_is_cut_short format sender before session db notes count at cells (AfterFiller stands) starts left =
     record { aborted = refl; some = refl; not_all = left; stopped = inr (first_left format (put_all format (length before) (take count notes)) notes count stands.too_long) }
-
--- nothing is left, so all are placed
-all_placed : (notes : List Note) (count : ℕ) → count ≤ length notes → drop count notes ≡ [] → count ≡ length notes
-all_placed notes count h none = omega (arith, ap length none, length-drop count notes)
-
-placed_some : (format : Format) (sender : Sender) (before : List (Option ℕ)) (notes : List Note) (count at : ℕ) (cells : List (Option ℕ))
-    → IsPlaced format sender before notes count at cells → count ≤ length notes
-placed_some format sender before notes count at cells (AfterNotes stands) = stands.within
-placed_some format sender before notes count at cells (AfterFiller stands) = stands.within
-
--- batches for the notifications that are left place all of them
-all_batches : (format : Format) (sender : Sender) (before : List (Option ℕ)) (notes : List Note) (count at : ℕ) (cells : List (Option ℕ)) (batches : List Batch)
-    → HasRoom format (length before) → All IsNote notes → IsPlaced format sender before notes count at cells → AreBatches format at (drop count notes) batches
-    → IsPlaced format sender before notes (length notes) (batches_end at batches) (with_batches format sender cells (drop count notes) batches)
-all_batches format sender before notes count at cells [] room valid placed are =
-    let all : count ≡ length notes = all_placed notes count (placed_some format sender before notes count at cells placed) are in
-    subst (λ (n : ℕ). IsPlaced format sender before notes n at cells) all placed
-all_batches format sender before notes count at cells (batch ∷ batches) room valid placed are =
-    let rest = drop count notes in
-    let next = padded_to batch.next (cells ++ batch_cells format sender rest batch) in
-    let left : drop batch.fits rest ≡ drop (count + batch.fits) notes = drop-drop batch.fits count notes in
-    let further = placing_goes_on format sender before notes count at cells batch room valid placed are.0 in
-    let more : AreBatches format batch.next (drop (count + batch.fits) notes) batches = subst (λ (ns : List Note). AreBatches format batch.next ns batches) left are.1 in
-    subst (λ (ns : List Note). IsPlaced format sender before notes (length notes) (batches_end batch.next batches) (with_batches format sender next ns batches)) (sym left)
-    (all_batches format sender before notes (count + batch.fits) batch.next next batches room valid further more)
-
-batches_cells : (format : Format) (sender : Sender) (before : List (Option ℕ)) (notes : List Note) (batches : List Batch) → HasRoom format (length before) → All IsNote notes
-    → AreBatches format (length before) notes batches → with_batches format sender before notes batches ≡ before ++ notes_cells format sender (length before) notes
-batches_cells format sender before notes batches room valid are =
-    all_cells format sender before notes (batches_end (length before) batches) (with_batches format sender before notes batches)
-    (all_batches format sender before notes 0 (length before) before batches room valid (placing_begins format sender before notes) are)
-
-pub batches_are_put : BatchesArePut
-batches_are_put = record { ends = batches_ends; fillers = batches_fillers; cells = batches_cells }
-
--- the laws of a writer that places batch after batch
-pub ruleset placing_laws = (placing_begins, placing_stands, placing_goes_on, placing_ends, placed_is_draft, batches_are_put)

@@ -1,18 +1,18 @@
 -- Two bits of a word.
-use Rattle.std.proofs.Common.{◌≡◌, ◌≢◌, ℕ, ◌+◌, ◌-◌, ◌*◌, ◌/◌, ◌%◌, ◌^◌, ◌<◌, ◌≤◌, bit_or, sym, ap, ◌∙◌, refl, arith, inl, inr}
+use Rattle.std.proofs.Common.{◌≡◌, ◌≢◌, ℕ, ◌+◌, ◌-◌, ◌*◌, ◌/◌, ◌%◌, ◌^◌, ◌<◌, ◌≤◌, bit_or, sym, ap, ◌∙◌, arith, inl, inr}
 use Rattle.std.specs.Int.Bits.{or_zero_l, or_zero_r}
 use Rattle.std.proofs.Math.Pow.{pow_mono}
-use Rattle.std.proofs.Math.Nat.{mod-eq_of_lt, div-eq_of_lt, div-div-eq-div-mul, mul-div_cancel, mul_assoc}
+use Rattle.std.proofs.Math.Nat.{mod-eq_of_lt, div-eq_of_lt, mul-div_cancel, mul_assoc}
 use Rattle.std.proofs.lemmas.Bool.{cases_lt}
-use Rattle.std.proofs.lemmas.Nat.{pow_pos, pow-add, or_shr, or_mod, or_lt}
+use Rattle.std.proofs.lemmas.Nat.{pow_pos, pow-add, or_shr, or_mod}
 use Rattle.pgn_base.specs.declared.limits.TheConstants.{FIRST_XID}
 use Rattle.pgn_journal.specs.declared.tx.Fate.{Fate}
 use Rattle.pgn_journal.specs.declared.tx.Fate.TheVariants.{Committed, Aborted}
 use Rattle.pgn_layout.specs.Status.{status_word, status_shift, status_code, status_in, status_set}
-use Rattle.pgn_layout.specs.Laws.{NoneIsSet, SetIsRead, OthersStay, SetFits, CodesTell, StatusHasBits}
+use Rattle.pgn_layout.specs.Laws.{NoneIsSet, SetIsRead, OthersStay}
 
 -- a number below 4 in its place is below what stands two bits higher
-shifted_low : (code shift : ℕ) → code < 4 → code * 2 ^ shift < 2 ^ (shift + 2)
+pub shifted_low : (code shift : ℕ) → code < 4 → code * 2 ^ shift < 2 ^ (shift + 2)
 shifted_low code shift small =
     let some : 0 < 2 ^ shift = pow_pos shift in
     let times : code * 2 ^ shift ≤ 3 * 2 ^ shift = grind arith in
@@ -25,7 +25,8 @@ shifted_fits code shift small low =
     let at_most : 2 ^ (shift + 2) ≤ 2 ^ 64 = pow_mono {i = shift + 2} {j = 64} (omega arith) in
     mod-eq_of_lt (omega (arith, shifted_low code shift small, at_most))
 
-code_small : (fate : Fate) → status_code fate < 4
+-- a code has two bits
+pub code_small : (fate : Fate) → status_code fate < 4
 code_small Committed = omega arith
 code_small Aborted = omega arith
 
@@ -87,31 +88,3 @@ others_stay word xid other fate h k apart same =
     or_two_bits word (status_set xid fate) there
     ∙ ap (λ n. bit_or (status_in word other) n) (not_here fate xid other (shifts_apart xid other h k apart same))
     ∙ or_zero_r (status_in word other)
-
-pub set_fits : SetFits
-set_fits word xid fate h =
-    let shift = status_shift xid in
-    let at_most : 2 ^ (shift + 2) ≤ 2 ^ 64 = pow_mono {i = shift + 2} {j = 64} (omega arith) in
-    or_lt 64 word (status_set xid fate) h (omega (arith, shifted_low (status_code fate) shift (code_small fate), at_most))
-
-codes_apart : (a b : Fate) → status_code a ≡ status_code b → a ≡ b
-codes_apart Committed Committed e = refl
-codes_apart Committed Aborted e = absurd (omega (arith, e))
-codes_apart Aborted Committed e = absurd (omega (arith, e))
-codes_apart Aborted Aborted e = refl
-
-code_some : (fate : Fate) → 0 < status_code fate
-code_some Committed = omega arith
-code_some Aborted = omega arith
-
-pub codes_tell : CodesTell
-codes_tell = record { some = code_some; apart = codes_apart }
-
-pub status_has_bits : StatusHasBits
-status_has_bits word xid =
-    let shift = status_shift xid in
-    let up : word / 2 ^ (shift + 1) ≡ word / 2 ^ shift / 2 = ap (λ n. word / n) (pow-add 2 shift 1) ∙ sym (div-div-eq-div-mul word (2 ^ shift) 2) in
-    omega (arith, up)
-
--- the laws of a word of statuses
-pub ruleset status_laws = (none_is_set, set_is_read, others_stay, set_fits, codes_tell, status_has_bits)

@@ -1,5 +1,5 @@
 -- Proofs of the laws of a trace as the journal grows.
-use Rattle.std.proofs.Common.{◌≡◌, ℕ, ◌+◌, ◌-◌, ◌<◌, ◌≤◌, max, List, [], ◌∷◌, ◌++◌, length, Option, Some, None, IfSome, All, fold, sym, refl, subst, arith, length-append}
+use Rattle.std.proofs.Common.{◌≡◌, ℕ, ◌+◌, ◌-◌, ◌<◌, ◌≤◌, max, List, [], ◌∷◌, ◌++◌, length, Option, Some, None, IfSome, All, fold, sym, refl, subst, arith}
 use Rattle.std.proofs.lemmas.List.Elements.{All-nil, All-head, All-tail, All-push, All-weaker, All-cons, All-pop}
 use Rattle.pgn_journal.specs.declared.tx.Tx.{Tx}
 use Rattle.pgn_model.specs.declared.item.Item.{Item}
@@ -11,11 +11,11 @@ use Rattle.pgn_model.specs.Along.{Along}
 use Rattle.pgn_model.specs.Walk.{Settings, Terms, State, Owed, Awaiting, start, after_item, Allowed, IsCommittedBy, IsAbortedBy, at_line, at_enlist, at_publish, at_full, at_leave, at_rows, at_raise, at_found, IsAwaiting, holder_at, IsGreatest}
 use Rattle.pgn_model.specs.Trace.{IsLawful, IsFreshAt, state_after}
 use Rattle.pgn_model.specs.Legal.{IsShownWithin, IsFullThere}
-use Rattle.pgn_model.specs.laws.Growing.{IsStateWithin, ShownGrows, ShownOver, FullGrows, ToldWithin, MarksWithin, MarkWithin, StateWithin, UpToDateGrows, FreshSoFarGrows, TraceOkGrows, FreshGrows, LawfulShows}
+use Rattle.pgn_model.specs.laws.Growing.{IsStateWithin, FullGrows, ToldWithin, MarksWithin, MarkWithin, StateWithin, UpToDateGrows, FreshSoFarGrows, LawfulShows}
 use Rattle.pgn_journal.proofs.JournalLaws.{entry-within}
 use Rattle.pgn_journal.proofs.NearLaws.{near-grows}
 use Rattle.pgn_journal.proofs.QueueUseLaws.{no_page-grows}
-use Rattle.pgn_model.proofs.WalkLaws.{Along-weaker, Stands-grows}
+use Rattle.pgn_model.proofs.WalkLaws.{Along-weaker}
 use Rattle.pgn_model.proofs.CarriedLaws.{Carried, carried, begun, carried-line, carried-enlist, carried-publish, carried-full, carried-leave, carried-rows, carried-raise, marks-found, told-found}
 
 -- a fact of the state that each item keeps holds where the walk ends
@@ -142,30 +142,6 @@ state-within terms journal items s h shown = subst (IsStateWithin (next_xid jour
   marks = marks-within terms journal items h.lawful;
 })
 
--- a bound on what is shown may be greater
-pub shown-weaker : (m n : ℕ) (item : Item) → m ≤ n → IsShownWithin m item → IsShownWithin n item
-shown-weaker m n (Line line) h p = tt
-shown-weaker m n (Enlist base point) h p = (omega (arith, p.0), omega (arith, p.1))
-shown-weaker m n (Publish xid notes) h p = omega (arith, p)
-shown-weaker m n (QueueFull full notes) h p = (omega (arith, p.0), omega (arith, p.1))
-shown-weaker m n Leave h p = tt
-shown-weaker m n (Reply tag warning) h p = tt
-shown-weaker m n (Refuse refusal) h p = tt
-shown-weaker m n (Channels names) h p = tt
-shown-weaker m n (Used usage) h p = (omega (arith, p.0), omega (arith, p.1))
-shown-weaker m n (Raise value) h p = omega (arith, p)
-shown-weaker m n (Found value) h p = omega (arith, p)
-shown-weaker m n (TimedOut looks) h p = tt
-shown-weaker m n (Read from to got) h p = (omega (arith, p.0), omega (arith, p.1))
-
--- what shows numbers within a bound shows them within a greater one
-pub shown-grows : ShownGrows
-shown-grows m n items h shown = All-weaker (IsShownWithin m) (IsShownWithin n) (λ item p. shown-weaker m n item h p) items shown
-
--- what shows numbers within a journal shows them within a longer one
-pub shown-over : ShownOver
-shown-over journal more items shown = shown-grows (next_xid journal) (next_xid (journal ++ more)) items (omega (arith, length-append journal more)) shown
-
 full-there : (settings : Settings) (journal more : List Tx) (item : Item) → IsFullThere settings journal item → IsFullThere settings (journal ++ more) item
 full-there settings journal more (QueueFull full notes) h = no_page-grows settings.format settings.limit journal more full h
 full-there settings journal more item h = tt
@@ -291,19 +267,3 @@ fresh_so_far-grows terms journal more items lawful shown fresh =
     let told = Along-before after_item (IsKnown terms journal) (λ (s : State). s.told ≤ next_xid journal) (λ s item p k. told-step terms journal s item p.0 p.1 k) (start terms.section) items (known-items terms journal items lawful shown) (first-told journal) in
     Along-weaker after_item (λ (s : State) (item : Item). (s.told ≤ next_xid journal) × IsFreshAt terms journal s item) (IsFreshAt terms (journal ++ more)) (λ s item p. fresh_at-grows terms journal more s item p.0 p.1) (start terms.section) items
     (Along-both after_item (λ (s : State) (item : Item). s.told ≤ next_xid journal) (IsFreshAt terms journal) (start terms.section) items told fresh)
-
--- a trace stays lawful as the journal grows
-pub trace_ok-grows : TraceOkGrows
-trace_ok-grows terms trace journal more h = record {
-  session = h.session;
-  database = h.database;
-  lawful = (Stands-grows terms journal more trace.items (state_after terms trace.items) (record { lawful = h.lawful; state = refl })).lawful;
-  ended = h.ended;
-}
-
--- no read is left out of a trace as the journal grows
-pub fresh-grows : FreshGrows
-fresh-grows terms trace journal more ok shown h = record {
-  between_lines = fresh_so_far-grows terms journal more trace.items ok.lawful shown h.between_lines;
-  at_end = up_to_date-grows terms journal more (state_after terms trace.items) (told-within terms journal trace.items ok.lawful shown) h.at_end;
-}

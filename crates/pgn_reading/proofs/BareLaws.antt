@@ -1,5 +1,5 @@
 -- What is shown of bare traces.
-use Rattle.std.proofs.Common.{◌≡◌, ◌≢◌, ℕ, ◌+◌, List, [], ◌∷◌, ◌++◌, map, flat_map, sum_by, Some, None, sym, ap, ◌∙◌, refl}
+use Rattle.std.proofs.Common.{◌≡◌, ℕ, ◌+◌, List, [], ◌∷◌, ◌++◌, map, flat_map, sum_by, None, sym, ap, ◌∙◌, refl}
 use Rattle.std.proofs.lemmas.List.{length-map}
 use Rattle.std.proofs.lemmas.List.Sums.{sum_by-cons}
 use Rattle.pgn_base.specs.declared.note.Note.{Note}
@@ -12,11 +12,10 @@ use Rattle.pgn_model.specs.declared.trace.Trace.{Trace}
 use Rattle.pgn_model.specs.Legal.{finished_xid}
 use Rattle.pgn_model.specs.Text.{end_line, item_lines, joined, journal_lines, received_by, received_in, section_line, traces_lines}
 use Rattle.pgn_reading.specs.Bare.{bare, bare_item}
-use Rattle.pgn_reading.specs.Merged.{finished}
-use Rattle.pgn_reading.specs.Laws.{OthersAreBare, BareHasNoNote, LegalIsLegalBare, BareHasSameLines, BareHasSameText, BareHasSameBrief}
+use Rattle.pgn_reading.specs.Laws.{BareHasSameLines, BareHasSameText, BareHasSameBrief}
 
 -- what holds of an item beside its bare one, where it does of a commit, of a full queue, and of each other item beside itself
-bare-item : (P : Item → Item → Type 0) → ((xid : ℕ) (notes : List Note) → P (Publish xid []) (Publish xid notes)) → ((full : Full) (notes : List Note) → P (QueueFull full []) (QueueFull full notes))
+pub bare-item : (P : Item → Item → Type 0) → ((xid : ℕ) (notes : List Note) → P (Publish xid []) (Publish xid notes)) → ((full : Full) (notes : List Note) → P (QueueFull full []) (QueueFull full notes))
     → ((item : Item) → finished_xid item ≡ None → P item item) → (item : Item) → P (bare_item item) item
 bare-item P commit full other (Line line) = other (Line line) refl
 bare-item P commit full other (Enlist base point) = other (Enlist base point) refl
@@ -31,42 +30,6 @@ bare-item P commit full other (Raise value) = other (Raise value) refl
 bare-item P commit full other (Found value) = other (Found value) refl
 bare-item P commit full other (TimedOut looks) = other (TimedOut looks) refl
 bare-item P commit full other (Read from to got) = other (Read from to got) refl
-
--- an item that shows no transaction as finished
-pub others-bare : OthersAreBare
-others-bare session db item =
-    bare-item (λ bare item. finished session db item ≡ None → bare ≡ item) (λ xid notes h. absurd (cc)) (λ full notes h. absurd (cc)) (λ item none h. refl) item
-
--- no bare item has a notification
-pub none-bare : BareHasNoNote
-none-bare item note notes =
-    bare-item (λ bare item. ((xid : ℕ) → bare ≢ Publish xid (note ∷ notes)) × ((full : Full) → bare ≢ QueueFull full (note ∷ notes)))
-    (λ x ns. (λ xid e. cc, λ full e. cc)) (λ f ns. (λ xid e. cc, λ full e. cc))
-    (λ other none. (
-      λ xid e. let is : None ≡ Some xid = sym none ∙ ap finished_xid e in cc,
-      λ full e. let is : None ≡ Some full.xid = sym none ∙ ap finished_xid e in cc,
-    ))
-    item
-
--- no bare traces begin with one that begins with a commit that has some
-pub commit-first : (trace : Trace) (traces whole : List Trace) (xid : ℕ) (note : Note) (notes : List Note) (items : List Item) → trace ∷ traces ≡ map bare whole → trace.items ≡ Publish xid (note ∷ notes) ∷ items → ⊥
-commit-first trace traces [] xid note notes items e is = cc
-commit-first trace traces (first ∷ whole) xid note notes items e is =
-    let same : trace ≡ bare first = cc in
-    begins first.items (sym (ap (λ (t : Trace). t.items) same) ∙ is)
-  where
-    begins : (those : List Item) → map bare_item those ≡ Publish xid (note ∷ notes) ∷ items → ⊥
-    begins [] e = cc
-    begins (item ∷ those) e = (none-bare item note notes).0 xid (cc)
-
--- no traces are bare ones of no trace
-pub no-whole : (whole : List Trace) → [] ≡ map bare whole → whole ≡ []
-no-whole [] e = refl
-no-whole (trace ∷ whole) e = absurd (let none : ⊥ = cc in none)
-
--- the traces of a legal run
-pub legal-bare : LegalIsLegalBare
-legal-bare scenario settings journal traces legal = record { whole = traces; are_bare = refl; legal = legal }
 
 -- the lines of an item
 pub lines-bare : BareHasSameLines

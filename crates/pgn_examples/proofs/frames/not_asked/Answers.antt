@@ -8,7 +8,7 @@ use Rattle.pgn_messages.specs.declared.asked.Ask.TheVariants.{Discard, End, Quer
 use Rattle.pgn_messages.specs.declared.asked.Parting.TheVariants.{Extended, Plain, Refused}
 use Rattle.pgn_frames.specs.Clients.{first_tally}
 use Rattle.pgn_examples.specs.Frames.{asks_one, garbled_at, listen_at, parses, too_short, two_asks, two_clients}
-use Rattle.pgn_frames.proofs.AskLaws.{one_asking}
+use Rattle.pgn_laws.proofs.AskLaws.{one_asking}
 use Rattle.pgn_examples.proofs.FrameLaws.{apart, garbled_asked, length_asked, parse_asked, settled_asked, terminate_asked, two_asked}
 use Rattle.pgn_examples.proofs.frames.not_asked.Goals as goal
 

@@ -4,7 +4,7 @@ use Rattle.std.specs.Fmt.{digits}
 use Rattle.pgn_language.specs.Grammar.{table, cut}
 use Rattle.pgn_language.specs.Lines.{says}
 use Rattle.pgn_language.specs.Inputs.{Large}
-use Rattle.pgn_language.proofs.InputLaws.{long-line, one-note_line_more, large-only, blank-line, lacks-replicate, one-note_line_within}
+use Rattle.pgn_laws.proofs.InputLaws.{long-line, one-note_line_more, large-only, blank-line, lacks-replicate, one-note_line_within}
 use Rattle.pgn_examples.proofs.inputs.faults_of_size.Goals as goal
 
 pub returns-clause-input : goal.returns-clause-input

@@ -2,7 +2,7 @@ use Rattle.std.proofs.Common.{List, [], refl, subst}
 use Rattle.pgn_model.specs.declared.trace.Trace.{Trace}
 use Rattle.pgn_model.specs.Legal.{Legal}
 use Rattle.pgn_examples.specs.Merge.{one_section}
-use Rattle.pgn_reading.proofs.BareLaws.{commit-first, no-whole}
+use Rattle.pgn_laws.proofs.BareLaws.{commit-first, no-whole}
 use Rattle.pgn_examples.proofs.merge.refused_runs.Goals as goal
 
 pub returns-clause-kept : goal.returns-clause-kept

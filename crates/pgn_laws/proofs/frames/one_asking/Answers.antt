@@ -1,4 +1,5 @@
-use Rattle.pgn_frames.proofs.AskLaws.{each_is_asked, one_asking}
+use Rattle.pgn_frames.proofs.AskLaws.{each_is_asked}
+use Rattle.pgn_laws.proofs.AskLaws.{one_asking}
 use Rattle.pgn_laws.proofs.NumberLaws.{numbers_go_on}
 use Rattle.pgn_laws.proofs.frames.one_asking.Goals as goal
 

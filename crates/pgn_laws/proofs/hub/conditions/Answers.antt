@@ -1,6 +1,6 @@
 use Rattle.std.proofs.Common.{ap, is_some}
 use Rattle.pgn_hub.specs.declared.known.Known.{Known}
-use Rattle.pgn_hub.proofs.SeatLaws.{opened-seats, opened-marks, opened-sets}
+use Rattle.pgn_laws.proofs.SeatLaws.{opened-seats, opened-marks, opened-sets}
 use Rattle.pgn_laws.proofs.hub.conditions.Goals as goal
 
 pub returns-clause-seats : goal.returns-clause-seats

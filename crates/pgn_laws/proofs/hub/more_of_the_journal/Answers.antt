@@ -1,4 +1,4 @@
-use Rattle.pgn_hub.proofs.CallLaws.{read-grows, woken-grows, full-grows, measured-grows}
+use Rattle.pgn_laws.proofs.CallLaws.{read-grows, woken-grows, full-grows, measured-grows}
 use Rattle.pgn_laws.proofs.hub.more_of_the_journal.Goals as goal
 
 pub returns-clause-read : goal.returns-clause-read

@@ -1,4 +1,5 @@
-use Rattle.pgn_journal.proofs.PackingLemmas.{aborted_ends, cells_apart, cells_give_bytes, cells_of_each, first_place, images_agree, is_packed, last_place, leaves_room, next_place, note_moves, notes_in_turn, pages_hold, place_bound, place_folds, place_grows, place_rises, places_agree, put_takes}
+use Rattle.pgn_journal.proofs.PackingLemmas.{first_place, images_agree, last_place, next_place, note_moves, notes_in_turn, pages_hold, place_bound, place_folds, place_grows, place_rises, places_agree, put_takes}
+use Rattle.pgn_laws.proofs.PackingLaws.{aborted_ends, cells_apart, cells_give_bytes, cells_of_each, is_packed, leaves_room}
 use Rattle.pgn_laws.proofs.journal.packing.Goals as goal
 
 pub returns-clause-first_place : goal.returns-clause-first_place

@@ -1,4 +1,5 @@
-use Rattle.pgn_journal.proofs.PieceLaws.{pieces_in_turn, image_is_laid, transactions_are_packed, pieces_split, image_drops, journal_is_cut, pieces_give_due, pieces_give_all_due, finished_queue_all, journal_tells_fates, pieces_are_numbered, numbers_rise, pieces_are_readable, piece_advances, piece_has_bytes, piece_reads_back, first_cells, third_cell, numbers_give_bytes, cells_hold_numbers}
+use Rattle.pgn_journal.proofs.PieceLaws.{pieces_in_turn, image_is_laid, pieces_split, image_drops, journal_is_cut, pieces_give_due, pieces_give_all_due, finished_queue_all, pieces_are_numbered, pieces_are_readable, piece_advances, piece_has_bytes, first_cells, third_cell, cells_hold_numbers}
+use Rattle.pgn_laws.proofs.PieceLaws.{transactions_are_packed, journal_tells_fates, numbers_rise, piece_reads_back, numbers_give_bytes}
 use Rattle.pgn_laws.proofs.journal.pieces.Goals as goal
 
 pub returns-clause-pieces_in_turn : goal.returns-clause-pieces_in_turn

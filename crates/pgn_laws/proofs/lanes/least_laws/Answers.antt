@@ -1,4 +1,4 @@
-use Rattle.pgn_lanes.proofs.LeastLaws.{least_is_least, only_empty_has_none}
+use Rattle.pgn_laws.proofs.LeastLaws.{least_is_least, only_empty_has_none}
 use Rattle.pgn_laws.proofs.lanes.least_laws.Goals as goal
 
 pub returns-clause-least : goal.returns-clause-least

@@ -1,4 +1,5 @@
-use Rattle.pgn_language.proofs.GrammarLaws.{begins-computes, followers-done, followers-tell, front-begins, one-reading, reading-computes, wrong-fits_nowhere}
+use Rattle.pgn_language.proofs.GrammarLaws.{begins-computes, followers-done, followers-tell, reading-computes}
+use Rattle.pgn_laws.proofs.GrammarLaws.{front-begins, one-reading, wrong-fits_nowhere}
 use Rattle.pgn_language.proofs.ValidForms.{readings-valid}
 use Rattle.pgn_laws.proofs.language.grammar.Goals as goal
 

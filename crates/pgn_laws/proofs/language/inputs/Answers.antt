@@ -1,4 +1,4 @@
-use Rattle.pgn_language.proofs.InputLaws.{input-computes, one-input_reading}
+use Rattle.pgn_laws.proofs.InputLaws.{input-computes, one-input_reading}
 use Rattle.pgn_language.proofs.OneLineCommands.{commands-one_line}
 use Rattle.pgn_language.proofs.SoundLaws.{only-sound}
 use Rattle.pgn_laws.proofs.language.inputs.Goals as goal

@@ -1,4 +1,5 @@
-use Rattle.pgn_language.proofs.LineLaws.{blank-reads_empty, lines-are_cut, parts-are_cut, texts-trimmed}
+use Rattle.pgn_language.proofs.LineLaws.{parts-are_cut, texts-trimmed}
+use Rattle.pgn_laws.proofs.LineLaws.{blank-reads_empty, lines-are_cut}
 use Rattle.pgn_laws.proofs.language.lines.Goals as goal
 
 pub returns-clause-lines_are_cut : goal.returns-clause-lines_are_cut

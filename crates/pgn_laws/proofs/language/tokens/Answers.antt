@@ -1,5 +1,6 @@
-use Rattle.pgn_language.proofs.CoverLaws.{one-cover, tokens-cover}
-use Rattle.pgn_language.proofs.SlotLaws.{tokens-stand}
+use Rattle.pgn_language.proofs.CoverLaws.{tokens-cover}
+use Rattle.pgn_laws.proofs.CoverLaws.{one-cover}
+use Rattle.pgn_laws.proofs.SlotLaws.{tokens-stand}
 use Rattle.pgn_language.proofs.TokenLaws.{cut-longest, cut-name, quotes-tell}
 use Rattle.pgn_laws.proofs.language.tokens.Goals as goal
 

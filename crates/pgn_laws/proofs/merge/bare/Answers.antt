@@ -1,4 +1,4 @@
-use Rattle.pgn_reading.proofs.BareLaws.{others-bare, none-bare, legal-bare}
+use Rattle.pgn_laws.proofs.BareLaws.{others-bare, none-bare, legal-bare}
 use Rattle.pgn_laws.proofs.merge.bare.Goals as goal
 
 pub returns-clause-others : goal.returns-clause-others

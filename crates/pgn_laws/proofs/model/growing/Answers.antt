@@ -1,4 +1,5 @@
-use Rattle.pgn_model.proofs.GrowingLaws.{shown-grows, shown-over, full-grows, told-within, marks-within, mark-within, state-within, lawful-shows, up_to_date-grows, fresh_so_far-grows, trace_ok-grows, fresh-grows}
+use Rattle.pgn_model.proofs.GrowingLaws.{full-grows, told-within, marks-within, mark-within, state-within, lawful-shows, up_to_date-grows, fresh_so_far-grows}
+use Rattle.pgn_laws.proofs.GrowingLaws.{shown-grows, shown-over, trace_ok-grows, fresh-grows}
 use Rattle.pgn_laws.proofs.model.growing.Goals as goal
 
 pub returns-clause-shown_grows : goal.returns-clause-shown_grows

@@ -1,4 +1,5 @@
-use Rattle.pgn_model.proofs.NextLineLaws.{empty-stands, stands_fresh-grows, holds-grows, holds-shows, holds-within, comes_next-grows, line-replies, line-refuses, line-is_silent, line-is_kept, no_list-outside, block-commits, one-commits, commits_next-grows, line-commits, line-meets_full, last-is_published, last-met_full, commit-finishes, full-finishes, commit-keeps_full, full-keeps_full, line-gives_channels, line-gives_usage, line-signals, line-awaits, await-finds, await-times_out, line-quits, idle-reads, await-reads, end-reads, no_listener-is_up_to_date, reader-is_up_to_date, quiet-is_up_to_date, end-is_lawful, end-is_fresh}
+use Rattle.pgn_model.proofs.NextLineLaws.{empty-stands, stands_fresh-grows, holds-grows, holds-shows, holds-within, comes_next-grows, line-replies, line-refuses, line-is_silent, commits_next-grows, line-commits, line-meets_full, last-is_published, last-met_full, commit-finishes, full-finishes, commit-keeps_full, full-keeps_full, line-gives_channels, line-gives_usage, line-signals, line-awaits, await-finds, await-times_out, line-quits, idle-reads, await-reads, end-reads, no_listener-is_up_to_date, reader-is_up_to_date, quiet-is_up_to_date, end-is_lawful, end-is_fresh}
+use Rattle.pgn_laws.proofs.NextLineLaws.{line-is_kept, no_list-outside, block-commits, one-commits}
 use Rattle.pgn_laws.proofs.model.next_line.Goals as goal
 
 pub returns-clause-empty_stands : goal.returns-clause-empty_stands

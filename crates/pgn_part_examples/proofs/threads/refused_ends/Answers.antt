@@ -2,7 +2,7 @@ use Rattle.std.proofs.Common.{List, [], length, ap, refl, arith}
 use Rattle.std.proofs.lemmas.List.{length-map}
 use Rattle.pgn_model.specs.declared.trace.Trace.{Trace}
 use Rattle.pgn_reading.specs.Bare.{bare}
-use Rattle.pgn_reading.proofs.BareLaws.{commit-first}
+use Rattle.pgn_laws.proofs.BareLaws.{commit-first}
 use Rattle.pgn_part_examples.proofs.threads.refused_ends.Goals as goal
 
 pub returns-clause-kept : goal.returns-clause-kept
