@@ -80,6 +80,9 @@ impl Draft {
     pub fn close(&mut self) -> Result<(), AllocError>
         ensures { OnOk result (self.new ≡ begun self.old Nothing) }
     {
+        if let Part::Nothing = &self.part {
+            return Ok(());
+        }
         match mem::replace(&mut self.part, Part::Nothing) {
             Part::Rows { names } => self.items.push(Item::Channels { names }),
             Part::Reads { from, to, got } => self.items.push(Item::Read { from, to, got }),

@@ -278,7 +278,7 @@ pieces_give_all_due format journal m n at db channels queue low =
     (told_part journal front m (begins-taken (n - 3) journal) low)
 
 -- a piece of the transaction with this number
-pub OfNumber : ℕ → Piece → Type 0
+unfoldable pub OfNumber : ℕ → Piece → Type 0
 OfNumber x piece = number_of piece ≡ x
 
 numbers_note : (format : Format) (sender : Sender) (at : ℕ) (note : Note) → All (OfNumber sender.xid) (note_pieces format sender at note)

@@ -18,6 +18,7 @@ pub fn one_xid(line: &str, start: &str) -> Option<Xid>
 }
 
 /// The two transaction numbers after a start.
+#[inline(always)]
 pub fn two_xids(line: &str, start: &str) -> Option<(Xid, Xid)>
     ensures { MatchOption result
         (NotTwo start.now line.now)

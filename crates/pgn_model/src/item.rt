@@ -31,6 +31,7 @@ pub enum Item {
 
 // Written out, so that this crate proves it once for all that drop one.
 impl Drop for Item {
+    #[inline(always)]
     fn drop(self) {
         match self {
             Item::Publish { xid: _, notes } => drop(notes),
