@@ -100,13 +100,12 @@ measure_checked() {
     large_checked 'short notes' 'print "\\session a 1"; print "LISTEN c"; for (i = 0; i < 60000; i++) print "NOTIFY c, \047p\047"
         for (k = 0; k < 20; k++) { print "\\session b" k " 1"; print "LISTEN c" }'
     large_checked 'many lines' 'print "\\session a 1"; for (i = 0; i < 600000; i++) { print "LISTEN c" i % 1000; print "UNLISTEN c" i % 1000 }'
-    made_checked unread legal 'print "\\session a 1\nLISTEN c\nNOTIFY e"; for (i = 0; i < 1000000; i++) print "LISTEN c" i
+    made_checked unread legal 'print "\\session a 1\nLISTEN c"; for (i = 0; i < 1000000; i++) print "LISTEN c" i
         print "\\session b 1"; for (k = 0; k < 1300; k++) print "NOTIFY d"
-        print "\\output\njournal 1301"; for (k = 0; k < 1300; k++) print "xid " 3 + k " session 2 commit 1\n  \"d\", \047\047"
-        print "xid 1303 session 1 commit 1\n  \"e\", \047\047"
-        print "session 1 a db 1 pid 1001\n> LISTEN c\n+enlist 3 3\nLISTEN\n> NOTIFY e\n+publish 1303\nNOTIFY"
+        print "\\output\njournal 1300"; for (k = 0; k < 1300; k++) print "xid " 3 + k " session 2 commit 1\n  \"d\", \047\047"
+        print "session 1 a db 1 pid 1001\n> LISTEN c\n+enlist 3 3\nLISTEN"
         for (i = 0; i < 1000000; i++) print "> LISTEN c" i "\nLISTEN"
-        print "+read 3 1304\nend mark 1304\nsession 2 b db 1 pid 1002"
+        print "+read 3 1303\nend mark 1303\nsession 2 b db 1 pid 1002"
         for (k = 0; k < 1300; k++) print "> NOTIFY d\n+publish " 3 + k "\nNOTIFY"; print "end"'
     made_checked 'many reads' 'illegal line 3001536' "reads = 1; listens = 1; all = 1500000; $many_reads"
     made_checked 'read by read' 'illegal line 2459771' "reads = 600; listens = 600; all = 1000000; $many_reads"
